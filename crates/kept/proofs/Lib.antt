@@ -1,0 +1,15 @@
+pub mod Contents
+pub mod NewContents
+pub mod ResetContents
+pub mod Tables
+pub mod Holds
+pub mod Counter
+pub mod Refusals
+pub mod Carried
+pub mod Written
+pub mod AlarmsKept
+pub mod WalksKept
+pub mod ReplyBytes
+pub mod LegalStates
+pub mod CommandsKept
+pub mod Kept

@@ -1,0 +1,41 @@
+-- A class and those that come with it.
+use Prim.Native.Nat.{ℕ}
+use mathlib.Core.Path.{_≡_, refl, _∙_}
+use mathlib.Core.Bool.{Bool, true}
+use mathlib.Core.Option.{some}
+use lib.Dec.{eqb}
+use Rattle.rules.specs.Maps.{find, keys, keep, among, rising}
+use Rattle.rules.specs.Catalogue.{Class, Catalogue, class, known, lead, leader, family}
+use Rattle.rules.specs.WellFormed.{WellFormed}
+use Rattle.rules.proofs.Laws.{eqb-eq, find-some, has-among}
+use Rattle.rules.proofs.MapLaws.{rising-up, rising-keep, Each, each-imp, each-keep, each-found, found-kept}
+use Rattle.rules.proofs.Lookups.{found-class}
+
+pub classes-found : (cat : Catalogue) → WellFormed cat → Each (λ c k. find c (cat .classes) ≡ some k) (cat .classes)
+classes-found cat w = each-found 0 (cat .classes) (rising-up (keys (cat .classes)) (w .classes-rise))
+
+-- the classes of a family are the catalogue's
+pub family-classes : (cat : Catalogue) → WellFormed cat → (c : ℕ) → Each (λ d k. class cat d ≡ k) (family cat c)
+unfolding family
+family-classes cat w c =
+    each-keep (λ d k. class cat d ≡ k) (λ d k. eqb (lead d (k .creation)) c) (cat .classes)
+    (each-imp (λ d k. find d (cat .classes) ≡ some k) (λ d k. class cat d ≡ k) (found-class cat) (cat .classes) (classes-found cat w))
+
+module _ (cat : Catalogue) (wf : WellFormed cat) where
+  pub family-rises : (c : ℕ) → rising (keys (family cat c)) ≡ true
+  unfolding family
+  family-rises c = rising-keep (λ d k. eqb (lead d (k .creation)) c) (cat .classes) (wf .classes-rise)
+
+  pub found-in-family : (c d : ℕ) (k : Class) → find d (family cat c) ≡ some k → (find d (cat .classes) ≡ some k) × (lead d (k .creation) ≡ c)
+  unfolding family
+  found-in-family c d k h =
+      let g = found-kept (λ d k. eqb (lead d (k .creation)) c) (cat .classes) (wf .classes-rise) d k h in
+      (g .0, eqb-eq (lead d (k .creation)) c (g .1))
+
+  -- a class of a family is known, and led by it
+  pub in-family : (c d : ℕ) → among d (keys (family cat c)) ≡ true → (known cat d ≡ true) × (leader cat d ≡ c)
+  in-family c d h =
+      let f = find-some d (family cat c) (has-among d (family cat c) ∙ h) in
+      let g = found-in-family c d (f .0) (f .1) in
+      let z : class cat d ≡ f .0 = found-class cat d (f .0) (g .0) in
+      (rw (g .0) refl, rw z (g .1))

@@ -1,0 +1,9 @@
+pub mod Laws
+pub mod MapLaws
+pub mod Lookups
+pub mod Families
+pub mod Standing
+pub mod ByteLaws
+pub mod Examples
+pub mod Limits
+pub mod Traps

@@ -1,0 +1,14 @@
+pub mod Maps
+pub mod Bytes
+pub mod Catalogue
+pub mod State
+pub mod Masks
+pub mod Legal
+pub mod Messages
+pub mod Commands
+pub mod Walks
+pub mod Reports
+pub mod Run
+pub mod Products
+pub mod WellFormed
+pub mod Extends

@@ -1,0 +1,4 @@
+// Document 01 as definitions: see specs/. This crate has no code of its own.
+pub fn nothing() -> u8 {
+    0
+}

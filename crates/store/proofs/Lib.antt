@@ -1,0 +1,11 @@
+pub mod BytesBack
+pub mod Parts
+pub mod ContentsBack
+pub mod EntriesBack
+pub mod Widths
+pub mod TablesBack
+pub mod AlarmsBack
+pub mod StateBack
+pub mod OfBytes
+pub mod Soundness
+pub mod Examples

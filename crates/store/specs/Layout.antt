@@ -1,0 +1,131 @@
+-- A state as bytes: eight parts of fixed length, so that one state has one encoding.
+use Prim.Native.Nat.{ℕ, zero, suc, _+_, _*_, _≤_}
+use mathlib.Core.Path.{_≡_}
+use mathlib.Core.Bool.{Bool, true, false, not, cond}
+use mathlib.Core.Option.{Option, none, some}
+use mathlib.Core.List.{List, [], _∷_, _++_, map}
+use lib.ListN.{length, take, drop, getD, replicate}
+use lib.Dec.{eqb, ltb, leb}
+use Rattle.rules.specs.Maps.{_and_, _or_, Map, every, gather, all, empty}
+use Rattle.rules.specs.Bytes.{bytes, fill, bits-from}
+use Rattle.rules.specs.Masks.{total}
+use Rattle.rules.specs.Catalogue.{Creation, Class, Catalogue, class, size-of, stored-numbers, is-created, family, key, ont-data}
+use Rattle.rules.specs.State.{Contents, Entry, Table, Alarms, Memory, State, class-of, number-of, entry, alarms-of}
+use Rattle.rules.specs.Legal.{automatic-keys}
+use Rattle.rules.specs.WellFormed.{implies, is-companion}
+use Rattle.rules.specs.Walks.{frozen}
+
+-- ---- the lengths that decide which catalogues fit: a wider class needs one of them widened, and nothing else
+
+-- class 2's contents: the sync counter
+abbrev pub ont-data-width : ℕ
+ont-data-width = 1
+
+-- the other instances that are there by themselves: how many, and the widest's contents
+abbrev pub slot-count : ℕ
+slot-count = 4
+
+abbrev pub slot-width : ℕ
+slot-width = 15
+
+-- created instances: how many, and the widest's contents with those of the instances that come with it
+abbrev pub place-count : ℕ
+place-count = 40
+
+abbrev pub place-width : ℕ
+place-width = 35
+
+-- a place begins with class and number
+abbrev pub place-length : ℕ
+place-length = 4 + place-width
+
+abbrev pub slots-length : ℕ
+slots-length = slot-count * slot-width
+
+abbrev pub places-length : ℕ
+places-length = place-count * place-length
+
+-- how many places are in use, the slots, the places
+abbrev pub table-length : ℕ
+table-length = 1 + (slots-length + places-length)
+
+-- ---- contents
+
+unfoldable pub contents-bytes : Contents → List ℕ
+contents-bytes r = gather (λ e. e .1) r
+
+unfoldable pub entry-bytes : Entry → List ℕ
+entry-bytes e = gather (λ r. contents-bytes (r .1)) e
+
+unfoldable pub slot : ℕ × Entry → List ℕ
+slot e = fill slot-width (entry-bytes (e .1))
+
+unfoldable pub place : ℕ × Entry → List ℕ
+place e = bytes 2 (class-of (e .0)) ++ bytes 2 (number-of (e .0)) ++ fill place-width (entry-bytes (e .1))
+
+-- a table without class 2: the places in use, the slots, then the places, which rise, with zeros behind them
+unfoldable pub code-table : Table → List ℕ
+code-table t = length (t .created) ∷ fill slots-length (gather slot (t .automatic)) ++ fill places-length (gather place (t .created))
+
+-- eight alarms of each slot's instance in a byte, alarm 0 at its top
+unfoldable pub code-alarms : Catalogue → Map Alarms → List ℕ
+code-alarms cat m = fill slot-count (map (λ k. bits-from 0 (take 8 (alarms-of k m))) (automatic-keys cat))
+
+unfoldable pub code-memory : Memory → List ℕ
+code-memory r = r .command ++ r .reply
+
+-- what may be absent: 0 and zeros, or 1 and its bytes
+unfoldable pub code-optional : {A : Type 0} → ℕ → (A → List ℕ) → Option A → List ℕ
+code-optional n f none = 0 ∷ replicate n 0
+code-optional n f (some a) = 1 ∷ f a
+
+-- ---- the parts
+
+abbrev pub memory-length : ℕ
+memory-length = 40 + 48
+
+-- product, alarm number, class 2, remembered command, alarms, alarm walk, table, upload
+abbrev pub part-lengths : List ℕ
+part-lengths = 1 ∷ 1 ∷ ont-data-width ∷ (1 + memory-length) ∷ slot-count ∷ (1 + slot-count) ∷ table-length ∷ (1 + table-length) ∷ []
+
+-- the parts of the state of product p
+unfoldable pub parts : ℕ → Catalogue → State → List (List ℕ)
+parts p cat s =
+    (p ∷ [])
+    ∷ (s .alarm-number ∷ [])
+    ∷ fill ont-data-width (entry-bytes (entry (key ont-data 0) (s .table)))
+    ∷ code-optional memory-length code-memory (s .remembered)
+    ∷ code-alarms cat (s .alarms)
+    ∷ code-optional slot-count (code-alarms cat) (s .walk)
+    ∷ code-table (frozen (s .table))
+    ∷ code-optional table-length code-table (s .upload)
+    ∷ []
+
+unfoldable pub encode : ℕ → Catalogue → State → List ℕ
+encode p cat s = gather (λ b. b) (parts p cat s)
+
+-- ---- which catalogues' states fit
+
+unfoldable pub contents-width : Class → ℕ
+contents-width k = total (size-of k) (stored-numbers k)
+
+-- the contents of an instance of class c and of those that come with it
+unfoldable pub family-width : Map Class → ℕ
+family-width [] = 0
+family-width (e ∷ m) = contents-width (e .1) + family-width m
+
+abbrev pub width-for : ℕ → Creation → ℕ
+width-for c creation = cond (eqb c ont-data) ont-data-width (cond (is-created creation) place-width slot-width)
+
+-- a class's entries fit their slot or place; alarms are those of slots, eight at the most
+unfoldable pub class-fits : Catalogue → ℕ → Class → Bool
+class-fits cat c k = leb (family-width (family cat c)) (width-for c (k .creation))
+    and (empty (k .alarms) or not (eqb c ont-data or is-created (k .creation) or is-companion (k .creation)))
+    and all (λ n. ltb n 8) (k .alarms)
+
+unfoldable pub fits : Catalogue → Bool
+fits cat = leb (length (automatic-keys cat)) slot-count and leb (cat .places) place-count and every (class-fits cat) (cat .classes)
+
+unfoldable pub computing-layout : ℕ
+unfolding contents-bytes entry-bytes slot place code-table code-alarms code-memory code-optional parts encode contents-width family-width class-fits fits
+computing-layout = 0
