@@ -8,4 +8,5 @@ pub mod AlarmsBack
 pub mod StateBack
 pub mod OfBytes
 pub mod Soundness
+pub mod Built
 pub mod Examples
