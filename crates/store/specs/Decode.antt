@@ -65,7 +65,7 @@ cut-parts (n ∷ l) b = take n b ∷ cut-parts l (drop n b)
 abbrev pub part : ℕ → List ℕ → List ℕ
 part n b = getD (cut-parts part-lengths b) n []
 
--- the table of part 6, with class 2 of part 2 in front
+-- the table of part 6, with class 2 of part 5 in front
 unfoldable pub read-live : Catalogue → List ℕ → List ℕ → Table
 read-live cat two-s b = record {
   automatic = (key ont-data 0, read-entry (family cat ont-data) two-s) ∷ read-table cat b .automatic;
@@ -74,12 +74,12 @@ read-live cat two-s b = record {
 
 unfoldable pub read-state : Catalogue → List ℕ → State
 read-state cat b = record {
-  table = read-live cat (part 2 b) (part 6 b);
-  alarms = read-alarms (automatic-keys cat) (part 4 b);
+  table = read-live cat (part 5 b) (part 6 b);
+  alarms = read-alarms (automatic-keys cat) (part 3 b);
   alarm-number = byte (part 1 b) 0;
-  remembered = read-optional read-memory (part 3 b);
+  remembered = read-optional read-memory (part 2 b);
   upload = read-optional (read-table cat) (part 7 b);
-  walk = read-optional (read-alarms (automatic-keys cat)) (part 5 b);
+  walk = read-optional (read-alarms (automatic-keys cat)) (part 4 b);
 }
 
 -- ---- soundness

@@ -84,19 +84,19 @@ code-optional n f (some a) = 1 ∷ f a
 abbrev pub memory-length : ℕ
 memory-length = 40 + 48
 
--- product, alarm number, class 2, remembered command, alarms, alarm walk, table, upload
+-- product, alarm number, remembered command, alarms, alarm walk, class 2, table, upload
 abbrev pub part-lengths : List ℕ
-part-lengths = 1 ∷ 1 ∷ ont-data-width ∷ (1 + memory-length) ∷ slot-count ∷ (1 + slot-count) ∷ table-length ∷ (1 + table-length) ∷ []
+part-lengths = 1 ∷ 1 ∷ (1 + memory-length) ∷ slot-count ∷ (1 + slot-count) ∷ ont-data-width ∷ table-length ∷ (1 + table-length) ∷ []
 
 -- the parts of the state of product p
 unfoldable pub parts : ℕ → Catalogue → State → List (List ℕ)
 parts p cat s =
     (p ∷ [])
     ∷ (s .alarm-number ∷ [])
-    ∷ fill ont-data-width (entry-bytes (entry (key ont-data 0) (s .table)))
     ∷ code-optional memory-length code-memory (s .remembered)
     ∷ code-alarms cat (s .alarms)
     ∷ code-optional slot-count (code-alarms cat) (s .walk)
+    ∷ fill ont-data-width (entry-bytes (entry (key ont-data 0) (s .table)))
     ∷ code-table (frozen (s .table))
     ∷ code-optional table-length code-table (s .upload)
     ∷ []
