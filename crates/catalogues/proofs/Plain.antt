@@ -88,7 +88,7 @@ module _ (cat : Catalogue) (c : ℕ) (a : Attribute) (not-carried : a .C ≡ fal
         g .0,
         both (g .1) .0,
         eqb-eq (size-of (class cat (leader cat c)) m) (a .size) (both (g .1) .1),
-        λ v theirs ours t. rw (plain-free p (rw e) v ours),
+        λ v theirs ours size bytes t. rw (plain-free p (rw e) v ours),
       )
   plain-first (of-creator m) e h p = tt
   plain-first (count-of d m) e h p = tt

@@ -18,19 +18,13 @@ use Rattle.rules.specs.WellFormed.{WellFormed, carried-bytes, unkept-bytes, car
 use Rattle.rules.proofs.Laws.{cases, never, true-false, not-true, not-false, both, and-true, eqb-eq, leb-le, every-find, find-some, has-among, all-among}
 use Rattle.rules.proofs.MapLaws.{some-eq, none-some, find-kept}
 use Rattle.rules.proofs.Lookups.{known-attribute, C-supported, class-says, supported-known, with-W}
+use Rattle.rules.proofs.Verdicts.{passes-later}
 use Rattle.rules.proofs.ByteLaws.{keys-cut, sized-cut, bytes-cut, bytes-drop}
 use Rattle.kept.proofs.Refusals.{none-of-those, none-kept, empty-front}
 use Rattle.kept.proofs.Contents.{Value, Writable}
 use Rattle.kept.proofs.NewContents.{CarriedIsLegal}
 use Rattle.kept.proofs.Tables.{LegalLive}
 use Rattle.kept.proofs.Holds.{Known, holds-known}
-
--- a verdict that passes by what is there passes in a state
-pub passes-later : (there later : ℕ → ℕ → Bool) → ((c i : ℕ) → there c i ≡ true → later c i ≡ true) → (v : Verdict) → passes there v ≡ true → passes later v ≡ true
-unfolding passes
-passes-later there later f fine h = refl
-passes-later there later f bad h = never h
-passes-later there later f (asks c i) h = f c i h
 
 -- the values that a message carries for these attributes, none of them illegal
 module _ (cat : Catalogue) (wf : WellFormed cat) (t : Table) (h : LegalLive cat wf t) (k : Class) (r : Contents) (l v : List ℕ)

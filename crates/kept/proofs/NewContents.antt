@@ -73,7 +73,7 @@ module _ (cat : Catalogue) (wf : WellFormed cat) where
         record {
           sized = v .sized ∙ f .2;
           bytes = v .bytes;
-          legal = f .3 (content m carried) (fixed-contents (class cat d) carried) (fixed-contents (class cat c) (new-contents carried (class cat c))) (v .legal);
+          legal = f .3 (content m carried) (fixed-contents (class cat d) carried) (fixed-contents (class cat c) (new-contents carried (class cat c))) (v .sized ∙ f .2) (v .bytes) (v .legal);
         }
     first-value n s t (of-creator a) i f = never i
     first-value n s t (count-of d a) i f = never i

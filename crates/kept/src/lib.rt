@@ -1,4 +1,1 @@
 // Every call keeps a state legal: see proofs/. This crate has no code of its own.
-pub fn nothing() -> u8 {
-    0
-}

@@ -75,6 +75,10 @@ pub false-or : (b : Bool) → (false or b) ≡ b
 unfolding _or_
 false-or b = refl
 
+-- two tests that come out true together are the same
+pub bool-eq : (a b : Bool) → (a ≡ true → b ≡ true) → (b ≡ true → a ≡ true) → a ≡ b
+bool-eq a b f g = cases a (λ e. rw e (sym (f e))) (λ e. cases b (λ y. rw (e, y) (sym e ∙ g y)) (λ y. rw (e, y)))
+
 pub eqb-true : (a b : ℕ) → a ≡ b → eqb a b ≡ true
 eqb-true a b h = is-true {b = eqb a b} (yes-eqb {a = a} {b = b} h)
 

@@ -4,6 +4,7 @@ pub mod Lookups
 pub mod Families
 pub mod Standing
 pub mod ByteLaws
+pub mod Verdicts
 pub mod Examples
 pub mod Limits
 pub mod Traps

@@ -2,7 +2,7 @@
 use Prim.Native.Nat.{ℕ, zero, suc, _+_, _*_, _/_, _%_, _^_}
 use mathlib.Core.Bool.{Bool, true, false, cond}
 use mathlib.Core.List.{List, [], _∷_, _++_}
-use lib.ListN.{take, getD, replicate}
+use lib.ListN.{length, take, drop, getD, replicate}
 use lib.Dec.{eqb, ltb}
 use Rattle.rules.specs.Maps.{all}
 
@@ -36,6 +36,13 @@ is-byte x = ltb x 256
 unfoldable pub are-bytes : List ℕ → Bool
 are-bytes l = all is-byte l
 
+unfoldable pub all-zero : List ℕ → Bool
+all-zero l = all (λ x. eqb x 0) l
+
+-- v laid over b from a place on
+unfoldable pub laid : ℕ → List ℕ → List ℕ → List ℕ
+laid at v b = take at b ++ (v ++ drop (at + length v) b)
+
 -- ---- bits, the top one first
 
 abbrev pub bit : Bool → ℕ
@@ -49,7 +56,7 @@ bits-from n (b ∷ l) = bits-from (n * 2 + bit b) l
 -- so many bytes of bits
 unfoldable pub bit-bytes : ℕ → List Bool → List ℕ
 bit-bytes zero l = []
-bit-bytes (suc k) l = bits-from 0 (take 8 l) ∷ bit-bytes k (lib.ListN.drop 8 l)
+bit-bytes (suc k) l = bits-from 0 (take 8 l) ∷ bit-bytes k (drop 8 l)
 
 -- the lowest so many bits of a number
 unfoldable pub bits : ℕ → ℕ → List Bool
@@ -57,5 +64,5 @@ bits zero x = []
 bits (suc k) x = eqb (x / 2 ^ k % 2) 1 ∷ bits k x
 
 unfoldable pub computing-bytes : ℕ
-unfolding number-from bytes are-bytes bits-from bit-bytes bits
+unfolding number-from bytes are-bytes all-zero laid bits-from bit-bytes bits
 computing-bytes = 0

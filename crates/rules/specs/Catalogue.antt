@@ -47,7 +47,7 @@ pub data Creation : Type 0 where
   comes-with : ℕ → Creation
 
 pub record Class : Type 0 where
-  -- the message numbers of the commands that are for this class
+  -- the message numbers of the commands for this class whose reply has a result (uploads and alarm walks are class 2's by the rules)
   pub commands : List ℕ
   pub creation : Creation
   -- the declared alarms

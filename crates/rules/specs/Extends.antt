@@ -3,22 +3,24 @@ use Prim.Native.Nat.{ℕ, zero, suc, _+_}
 use mathlib.Core.Path.{_≡_}
 use mathlib.Core.Bool.{Bool, true, false, not, cond}
 use mathlib.Core.List.{List, [], _∷_, _++_}
-use lib.ListN.{replicate}
-use Rattle.rules.specs.Maps.{among, all, those}
-use Rattle.rules.specs.Catalogue.{Verdict, fine, bad, asks, Attribute, Creation, created, automatic, comes-with, Class, Catalogue, class, known, attribute, supported, size-of, carried-numbers, is-fixed}
+use lib.ListN.{length, replicate}
+use Rattle.rules.specs.Bytes.{are-bytes}
+use Rattle.rules.specs.Maps.{_and_, among, all, those}
+use Rattle.rules.specs.Catalogue.{Verdict, fine, bad, asks, Attribute, Creation, created, automatic, comes-with, Class, Catalogue, class, known, attribute, supported, size-of, carried-numbers, is-fixed, automatic-numbers}
+use Rattle.rules.specs.State.{State, holds}
+use Rattle.rules.specs.Legal.{passes}
+use Rattle.rules.specs.Run.{Call, message, attribute-report, alarm-report}
 use Rattle.rules.specs.WellFormed.{carried-bytes}
 
 -- ---- legal contents may only grow
 
--- what the first verdict lets pass, the second does
-abbrev pub Allows : Verdict → Verdict → Type 0
-Allows bad w = Unit {0}
-Allows fine fine = Unit {0}
-Allows fine bad = ⊥
-Allows fine (asks c i) = ⊥
-Allows (asks c i) fine = Unit {0}
-Allows (asks c i) bad = ⊥
-Allows (asks c i) (asks d j) = (c ≡ d) × (i ≡ j)
+-- What the first verdict lets pass, the second does, wherever every instance that is there in the first is there in the second, and
+-- so is every automatic instance of the second.
+abbrev pub Allows : Catalogue → Verdict → Verdict → Type 0
+Allows second v w = (there there′ : ℕ → ℕ → Bool)
+    → ((c i : ℕ) → there c i ≡ true → there′ c i ≡ true)
+    → ((c i : ℕ) → among i (automatic-numbers (class second c .creation)) ≡ true → there′ c i ≡ true)
+    → passes there v ≡ true → passes there′ w ≡ true
 
 -- What the second's rules may look at is as in the first; where only the second has the attribute, it holds zero, as it does after
 -- every Create that the first accepts.
@@ -28,18 +30,19 @@ Agree k l f g = (n : ℕ) → is-fixed (attribute l n) ≡ true
 
 -- ---- attributes that both have
 
-pub record AttributeExtends (k l : Class) (a b : Attribute) : Type 0 where
+pub record AttributeExtends (second : Catalogue) (k l : Class) (a b : Attribute) : Type 0 where
   -- the same size, way of reading and first content
   pub same-size : a .size ≡ b .size
   pub same-source : a .source ≡ b .source
   -- rights and legal contents may only grow
   pub W-grows : a .W ≡ true → b .W ≡ true
-  pub legal-contents-grow : (v : List ℕ) (f g : ℕ → List ℕ) → Agree k l f g → Allows ((a .rule) v f) ((b .rule) v g)
+  pub legal-contents-grow : (v : List ℕ) (f g : ℕ → List ℕ) → length v ≡ a .size → are-bytes v ≡ true → Agree k l f g
+      → Allows second ((a .rule) v f) ((b .rule) v g)
   -- but set by create, L, AVC and an L attribute's legal contents stay the same
   pub same-C : a .C ≡ b .C
   pub same-L : a .L ≡ b .L
   pub same-AVC : a .avc ≡ b .avc
-  pub same-legal-L : a .L ≡ true → (v : List ℕ) (others : ℕ → List ℕ) → (a .rule) v others ≡ (b .rule) v others
+  pub same-legal-L : a .L ≡ true → (v : List ℕ) (others : ℕ → List ℕ) → length v ≡ a .size → are-bytes v ≡ true → (a .rule) v others ≡ (b .rule) v others
 
 -- ---- classes that both have
 
@@ -59,11 +62,11 @@ SameCreation (comes-with c) (comes-with d) = c ≡ d
 unfoldable pub added-carried : Class → Class → List ℕ
 added-carried k l = those (λ n. not (supported k n)) (carried-numbers l)
 
-pub record ClassExtends (k l : Class) : Type 0 where
+pub record ClassExtends (second : Catalogue) (k l : Class) : Type 0 where
   pub same-creation : SameCreation (k .creation) (l .creation)
   pub commands-kept : all (λ n. among n (l .commands)) (k .commands) ≡ true
-  pub same-alarms : k .alarms ≡ l .alarms
-  pub attributes-kept : (n : ℕ) → supported k n ≡ true → (supported l n ≡ true) × AttributeExtends k l (attribute k n) (attribute l n)
+  pub same-alarms : (n : ℕ) → among n (k .alarms) ≡ among n (l .alarms)
+  pub attributes-kept : (n : ℕ) → supported k n ≡ true → (supported l n ≡ true) × AttributeExtends second k l (attribute k n) (attribute l n)
   -- Creates carry equally many bytes
   pub creates-carry-equally : carried-bytes k ≡ carried-bytes l
   -- set-by-create attributes only in the second come after the first's, where the first demands zero, and accept zero
@@ -76,8 +79,16 @@ pub record ClassExtends (k l : Class) : Type 0 where
 -- Added automatic instances are of classes that can't be created: so it is with every Creation.
 pub record Extends (first second : Catalogue) : Type 0 where
   pub same-places : first .places ≡ second .places
-  pub classes-kept : (c : ℕ) → known first c ≡ true → (known second c ≡ true) × ClassExtends (class first c) (class second c)
+  pub classes-kept : (c : ℕ) → known first c ≡ true → (known second c ≡ true) × ClassExtends second (class first c) (class second c)
+
+-- ---- reports
+
+-- a report names what a product has if it then holds the instance, and its class there has that attribute or alarm
+unfoldable pub names-what-it-has : Catalogue → State → Call → Bool
+names-what-it-has cat s (message m) = true
+names-what-it-has cat s (attribute-report c i n v) = holds cat (s .table) c i and supported (class cat c) n
+names-what-it-has cat s (alarm-report c i n on) = holds cat (s .table) c i and among n (class cat c .alarms)
 
 unfoldable pub computing-extends : ℕ
-unfolding added-carried
+unfolding added-carried names-what-it-has
 computing-extends = 0

@@ -1,4 +1,1 @@
 // Document 01 as definitions: see specs/. This crate has no code of its own.
-pub fn nothing() -> u8 {
-    0
-}

@@ -8,5 +8,6 @@ pub mod AlarmsBack
 pub mod StateBack
 pub mod OfBytes
 pub mod Soundness
+pub mod Agreement
 pub mod Built
 pub mod Examples

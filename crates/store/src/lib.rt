@@ -1,4 +1,1 @@
-// The store: a state as bytes. See specs/; this crate has no code of its own yet.
-pub fn nothing() -> u8 {
-    0
-}
+// A state as bytes: see specs/. This crate has no code of its own.

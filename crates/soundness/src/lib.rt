@@ -1,0 +1,1 @@
+// Soundness as tests of bytes: see specs/. The code follows.

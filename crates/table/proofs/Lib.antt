@@ -1,0 +1,6 @@
+pub mod Laid
+pub mod ContentsLaid
+pub mod BlocksLaid
+pub mod Parted
+pub mod Positions
+pub mod TableLaid
