@@ -1,15 +1,15 @@
 -- A class and those that come with it.
 use Prim.Native.Nat.{ℕ}
 use mathlib.Core.Path.{_≡_, refl, _∙_}
-use mathlib.Core.Bool.{Bool, true}
+use mathlib.Core.Bool.{Bool, true, false}
 use mathlib.Core.Option.{some}
 use lib.Dec.{eqb}
 use Rattle.rules.specs.Maps.{find, keys, keep, among, rising}
-use Rattle.rules.specs.Catalogue.{Class, Catalogue, class, known, lead, leader, family}
-use Rattle.rules.specs.WellFormed.{WellFormed}
-use Rattle.rules.proofs.Laws.{eqb-eq, find-some, has-among}
-use Rattle.rules.proofs.MapLaws.{rising-up, rising-keep, Each, each-imp, each-keep, each-found, found-kept}
-use Rattle.rules.proofs.Lookups.{found-class}
+use Rattle.rules.specs.Catalogue.{Creation, created, automatic, comes-with, Class, Catalogue, class, known, is-created, lead, leader, family}
+use Rattle.rules.specs.WellFormed.{WellFormed, leader-is-created, comes-with-a-created-one}
+use Rattle.rules.proofs.Laws.{true-false, eqb-eq, eqb-true, find-some, has-among}
+use Rattle.rules.proofs.MapLaws.{rising-up, rising-keep, Each, each-imp, each-keep, each-found, found-kept, find-kept}
+use Rattle.rules.proofs.Lookups.{found-class, known-class, class-says}
 
 pub classes-found : (cat : Catalogue) → WellFormed cat → Each (λ c k. find c (cat .classes) ≡ some k) (cat .classes)
 classes-found cat w = each-found 0 (cat .classes) (rising-up (keys (cat .classes)) (w .classes-rise))
@@ -39,3 +39,24 @@ module _ (cat : Catalogue) (wf : WellFormed cat) where
       let g = found-in-family c d (f .0) (f .1) in
       let z : class cat d ≡ f .0 = found-class cat d (f .0) (g .0) in
       (rw (g .0) refl, rw z (g .1))
+
+  -- a known class is in its leader's family
+  pub family-has : (c : ℕ) → known cat c ≡ true → among c (keys (family cat (leader cat c))) ≡ true
+  unfolding family
+  family-has c h = rw (
+    ← has-among c (keep (λ d k. eqb (lead d (k .creation)) (leader cat c)) (cat .classes)),
+    find-kept (λ d k. eqb (lead d (k .creation)) (leader cat c)) c (class cat c) (cat .classes) (known-class cat c h) (eqb-true (leader cat c) (leader cat c) refl),
+  )
+      refl
+
+  leads-or-led : (d c : ℕ) (creation : Creation) → lead d creation ≡ c → leader-is-created cat creation ≡ true → is-created (class cat c .creation) ≡ false → d ≡ c
+  leads-or-led d c created e l n = e
+  leads-or-led d c (automatic m) e l n = e
+  leads-or-led d c (comes-with b) e l n = true-false (rw e at l) n
+
+  -- a class that can't be created is alone in its family
+  pub alone : (c : ℕ) → is-created (class cat c .creation) ≡ false → (d : ℕ) → among d (keys (family cat c)) ≡ true → d ≡ c
+  unfolding comes-with-a-created-one
+  alone c n d h =
+      let f = in-family c d h in
+      leads-or-led d c (class cat d .creation) (f .1) (class-says (comes-with-a-created-one cat) cat (wf .companions-of-created) d (f .0)) n

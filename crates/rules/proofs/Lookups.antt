@@ -49,6 +49,11 @@ pub created-known : (cat : Catalogue) (c : ℕ) → is-created (class cat c .cre
 unfolding no-class
 created-known cat c h = cases (known cat c) (λ t. t) (λ t. never (rw (unknown-class cat c t) at h))
 
+-- a class whose leader can be created is known
+pub led-known : (cat : Catalogue) (c : ℕ) → is-created (class cat (leader cat c) .creation) ≡ true → known cat c ≡ true
+unfolding no-class
+led-known cat c h = cases (known cat c) (λ t. t) (λ t. let z : class cat c ≡ no-class = unknown-class cat c t in never (rw (z, z) at h))
+
 -- ---- attributes
 
 pub found-attribute : (k : Class) (n : ℕ) (a : Attribute) → find n (k .attributes) ≡ some a → attribute k n ≡ a

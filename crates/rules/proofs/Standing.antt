@@ -8,7 +8,7 @@ use mathlib.Core.Logic.{_≢_}
 use mathlib.Core.List.{List, [], _∷_, _++_}
 use lib.Dec.{eqb, ltb}
 use Rattle.rules.specs.Maps.{_and_, _or_, Map, find, keys, keep, every, gather, among, all, rising}
-use Rattle.rules.specs.Catalogue.{Creation, created, automatic, comes-with, Class, Catalogue, no-class, class, known, is-created, automatic-numbers, family, lead, key, ont-data}
+use Rattle.rules.specs.Catalogue.{Creation, created, automatic, comes-with, Class, Catalogue, no-class, class, known, is-created, automatic-numbers, lead, leader, key, ont-data}
 use Rattle.rules.specs.State.{class-of, number-of}
 use Rattle.rules.specs.Legal.{keys-of, automatic-keys}
 use Rattle.rules.specs.WellFormed.{WellFormed, automatic-numbers-rise}
@@ -133,6 +133,16 @@ module _ (cat : Catalogue) (wf : WellFormed cat) where
 
   pub stands-not-created : (k : ℕ) → stands cat k ≡ true → is-created (class cat (class-of k) .creation) ≡ false
   stands-not-created k h = numbers-of-automatic (class cat (class-of k) .creation) (number-of k) (both (both h .1) .1)
+
+  numbers-lead : (creation : Creation) (c i : ℕ) → among i (automatic-numbers creation) ≡ true → lead c creation ≡ c
+  unfolding among
+  numbers-lead created c i h = refl
+  numbers-lead (automatic l) c i h = refl
+  numbers-lead (comes-with d) c i h = never h
+
+  -- it leads itself
+  pub stands-leads : (k : ℕ) → stands cat k ≡ true → leader cat (class-of k) ≡ class-of k
+  stands-leads k h = numbers-lead (class cat (class-of k) .creation) (class-of k) (number-of k) (both (both h .1) .1)
 
   -- they rise
   pub automatic-rise : Up 0 (automatic-keys cat)

@@ -93,3 +93,23 @@ module _ (cat : Catalogue) where
       entry-laid fam e (suc (k .0)) c o w f r (cl .1) (u .1) (both s .1) (both h .1) (rw t at fd) eq fit in
       let sum : contents-width (k .1) + before fam c + o ≡ contents-width (k .1) + (before fam c + o) = omega arith in
       rw (ne, nk, ih, sum, ← lx) (laid-behind (contents-bytes (x .1)) w rest (before fam c + o)))
+
+  pub entry-room : (fam : Map Class) (e : Entry) (c m : ℕ) (r : Contents)
+      → Each (λ d k. class cat d ≡ k) fam → same (keys e) (keys fam) ≡ true → every (λ c r. legal-contents cat (class cat c) r) e ≡ true
+      → find c e ≡ some r → m ≤ length (contents-bytes r) → before fam c + m ≤ length (entry-bytes e)
+  unfolding entry-bytes keys same every gather find before
+  entry-room [] [] c m r cl s h fd fit = none-some fd
+  entry-room [] (x ∷ e) c m r cl s h fd fit = never s
+  entry-room (k ∷ fam) [] c m r cl s h fd fit = never s
+  entry-room (k ∷ fam) (x ∷ e) c m r cl s h fd fit =
+      let n : x .0 ≡ k .0 = eqb-eq (x .0) (k .0) (both s .0) in
+      let g : legal-contents cat (k .1) (x .1) ≡ true = rw (← cl .0, ← n) (both h .0) in
+      let lx : length (contents-bytes (x .1)) ≡ contents-width (k .1) = contents-length cat (k .1) (x .1) g in
+      let la = length-append (contents-bytes (x .1)) (entry-bytes e) in
+      cases (eqb c (x .0))
+      (λ t. let y : x .1 ≡ r = some-eq (rw t at fd) in
+      rw (eqb-true c (k .0) (eqb-eq c (x .0) t ∙ n), la, y) (omega arith))
+      (λ t.
+      let nk : eqb c (k .0) ≡ false = eqb-false c (k .0) (λ z. eqb-ne c (x .0) t (z ∙ sym n)) in
+      let ih : before fam c + m ≤ length (entry-bytes e) = entry-room fam e c m r (cl .1) (both s .1) (both h .1) (rw t at fd) fit in
+      rw (nk, la) (omega arith))

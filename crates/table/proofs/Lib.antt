@@ -4,3 +4,5 @@ pub mod BlocksLaid
 pub mod Parted
 pub mod Positions
 pub mod TableLaid
+pub mod TableRead
+pub mod BlocksMoved

@@ -4,7 +4,7 @@ use mathlib.Core.Bool.{Bool, true, false, cond}
 use mathlib.Core.Option.{Option, none, some}
 use mathlib.Core.List.{List, [], _∷_, _++_}
 use lib.ListN.{length, take, drop}
-use lib.Dec.{eqb}
+use lib.Dec.{eqb, ltb}
 use Rattle.rules.specs.Maps.{_and_, Map, given, keys}
 use Rattle.rules.specs.Bytes.{fill}
 use Rattle.rules.specs.Catalogue.{Class, Catalogue, class, is-created, leader, family, key, ont-data}
@@ -29,6 +29,11 @@ one-on (some j) = some (suc j)
 unfoldable pub position : ℕ → List ℕ → Option ℕ
 position k [] = none
 position k (x ∷ l) = cond (eqb k x) (some 0) (one-on (position k l))
+
+-- how many numbers of a rising list come before k
+unfoldable pub rank : ℕ → List ℕ → ℕ
+rank k [] = 0
+rank k (x ∷ l) = cond (ltb k x) 0 (suc (rank k l))
 
 -- the bytes of a family before those of class c
 unfoldable pub before : Map Class → ℕ → ℕ
