@@ -6,3 +6,4 @@ pub mod Positions
 pub mod TableLaid
 pub mod TableRead
 pub mod BlocksMoved
+pub mod TableMoved

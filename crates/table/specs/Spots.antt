@@ -1,9 +1,9 @@
 -- Where an instance's contents stand in the bytes of a table.
-use Prim.Native.Nat.{ℕ, zero, suc, _+_, _*_}
+use Prim.Native.Nat.{ℕ, zero, suc, _+_, _*_, _-_}
 use mathlib.Core.Bool.{Bool, true, false, cond}
 use mathlib.Core.Option.{Option, none, some}
 use mathlib.Core.List.{List, [], _∷_, _++_}
-use lib.ListN.{length, take, drop}
+use lib.ListN.{length, take, drop, replicate}
 use lib.Dec.{eqb, ltb}
 use Rattle.rules.specs.Maps.{_and_, Map, given, keys}
 use Rattle.rules.specs.Bytes.{fill}
@@ -65,3 +65,13 @@ spot cat t c i =
     cond (is-created (class cat (leader cat c) .creation))
     (at-position (λ j. place-at j + 4 + inside cat c) (position (key (leader cat c) i) (keys (t .created))))
     (cond (eqb c ont-data and eqb i 0) (some 0) (at-position slot-at (position (key c i) (automatic-keys cat))))
+
+-- ---- bytes that move
+
+-- r put in at a place: what stood there moves up, and what falls off the end is lost
+unfoldable pub inserted : ℕ → List ℕ → List ℕ → List ℕ
+inserted at r b = take at b ++ (r ++ take (length b - at - length r) (drop at b))
+
+-- so many bytes taken out at a place: what stood behind moves down, and zeros follow
+unfoldable pub removed : ℕ → ℕ → List ℕ → List ℕ
+removed at n b = take at b ++ (drop n (drop at b) ++ replicate n 0)
