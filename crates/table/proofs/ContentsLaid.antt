@@ -19,7 +19,8 @@ use Rattle.rules.proofs.MapLaws.{some-eq, none-some, Up, up-weaken, up-among, f
 use Rattle.store.specs.Layout.{contents-bytes, entry-bytes, contents-width}
 use Rattle.store.proofs.ContentsBack.{sized, length-sized, contents-length}
 use Rattle.table.specs.Spots.{offset, before}
-use Rattle.table.proofs.Laid.{laid-behind, laid-before, laid-whole}
+use Rattle.table.proofs.Laid.{laid-behind, laid-before}
+use Rattle.octets.proofs.Laid.{laid-all}
 
 -- a number below a rising list isn't in it
 pub not-below : (b k : ℕ) (l : List ℕ) → Up b l → k < b → among k l ≡ false
@@ -34,7 +35,7 @@ overwrite-absent n w (e ∷ r) h =
 
 -- what is laid over the front of two lists
 laid-front : (w v rest : List ℕ) → length w ≡ length v → laid 0 w (v ++ rest) ≡ w ++ rest
-laid-front w v rest h = sym (laid-before w v rest 0 (omega arith)) ∙ ap (λ (z : List ℕ). z ++ rest) (laid-whole w v h)
+laid-front w v rest h = sym (laid-before w v rest 0 (omega arith)) ∙ ap (λ (z : List ℕ). z ++ rest) (laid-all w v h)
 
 pub contents-laid : (size : ℕ → ℕ) (b : ℕ) (r : Contents) (n : ℕ) (w : List ℕ) → Up b (keys r) → sized size r ≡ true → among n (keys r) ≡ true → length w ≡ size n
     → contents-bytes (overwrite ((n, w) ∷ []) r) ≡ laid (offset size (keys r) n) w (contents-bytes r)

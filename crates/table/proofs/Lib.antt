@@ -7,3 +7,5 @@ pub mod TableLaid
 pub mod TableRead
 pub mod BlocksMoved
 pub mod TableMoved
+pub mod StoreLaid
+pub mod StateLaid

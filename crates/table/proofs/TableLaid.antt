@@ -29,7 +29,7 @@ use Rattle.store.proofs.TablesBack.{slot-length, place-has-its-length}
 use Rattle.kept.proofs.NewContents.{attributes-in-order}
 use Rattle.kept.proofs.Tables.{LegalEntry, open-entry, close-entry, LegalTable, LegalLive, length-each}
 use Rattle.table.specs.Spots.{live-bytes, position, before, inside, offset, slot-at, place-at, at-position, spot}
-use Rattle.table.proofs.Laid.{laid-behind, laid-before, fill-laid, length-laid}
+use Rattle.table.proofs.Laid.{laid-behind, laid-before, fill-laid}
 use Rattle.table.proofs.ContentsLaid.{contents-laid, offset-fits, entry-laid, entry-room}
 use Rattle.table.proofs.BlocksLaid.{blocks-laid}
 use Rattle.table.proofs.Positions.{position-among, position-found, position-small}
@@ -55,7 +55,7 @@ unfolding live-bytes code-table frozen entry find keep
 in-pieces cat wf e a m ks =
     let p : ℕ → Entry → Bool = λ k e. not (eqb (class-of k) ont-data) in
     let all-others : every p a ≡ true = every-keys (λ k. not (eqb (class-of k) ont-data)) a ∙ ap (λ (l : List ℕ). all (λ k. not (eqb (class-of k) ont-data)) l) ks
-        ∙ all-imp (stands cat) (λ k. not (eqb (class-of k) ont-data)) (λ k s. both (both s .1) .0) (automatic-keys cat) (automatic-keys-stand cat wf) in
+    ∙ all-imp (stands cat) (λ k. not (eqb (class-of k) ont-data)) (λ k s. both (both s .1) .0) (automatic-keys cat) (automatic-keys-stand cat wf) in
     rw (keep-all p a all-others) (sym (append-assoc (fill ont-data-width (entry-bytes e)) (length m ∷ fill slots-length (gather slot a)) (fill places-length (gather place m))))
 
 pub front-length : (e : Entry) (a m : Map Entry) → length (fill ont-data-width (entry-bytes e) ++ (length m ∷ fill slots-length (gather slot a))) ≡ 2 + slots-length
@@ -123,8 +123,7 @@ module _ (cat : Catalogue) (wf : WellFormed cat) (ft : fits cat ≡ true) (t : T
   unfolding contents-width
   in-contents r l up =
       let ks : keys r ≡ stored-numbers (class cat c) = legal-keys cat (class cat c) r l in
-      let len : length (contents-bytes r) ≡ total (size-of (class cat c)) (stored-numbers (class cat c)) = contents-length cat (class cat c) r l in
-      (
+      let len : length (contents-bytes r) ≡ total (size-of (class cat c)) (stored-numbers (class cat c)) = contents-length cat (class cat c) r l in (
         rw ks at (contents-laid (size-of (class cat c)) 0 r n w (rw ks (rising-up (stored-numbers (class cat c)) up)) (legal-sized cat (class cat c) r l) (rw ks st) lw),
         rw (lw, len) (offset-fits (size-of (class cat c)) (stored-numbers (class cat c)) n st),
       )
@@ -143,9 +142,9 @@ module _ (cat : Catalogue) (wf : WellFormed cat) (ft : fits cat ≡ true) (t : T
       let l : legal-contents cat (class cat c) (f .0) ≡ true = every-find (λ c r. legal-contents cat (class cat c) r) e (le .its-contents) c (f .0) (f .1) in
       let q = in-contents (f .0) l (stored-rise kn) in
       let laid-in = entry-laid cat fam e 0 c off w wrote (f .0) (family-classes cat wf (leader cat c)) (rising-up (keys fam) (family-rises cat wf (leader cat c)))
-          (eq-same (keys e) (keys fam) ks) (le .its-contents) (f .1) (q .0) (q .1) in
+      (eq-same (keys e) (keys fam) ks) (le .its-contents) (f .1) (q .0) (q .1) in
       let room : before fam c + (off + length w) ≤ length (entry-bytes e) =
-          entry-room cat fam e c (off + length w) (f .0) (family-classes cat wf (leader cat c)) (eq-same (keys e) (keys fam) ks) (le .its-contents) (f .1) (q .1) in
+      entry-room cat fam e c (off + length w) (f .0) (family-classes cat wf (leader cat c)) (eq-same (keys e) (keys fam) ks) (le .its-contents) (f .1) (q .1) in
       (laid-in, omega arith)
 
   abbrev written : Table
@@ -174,8 +173,7 @@ module _ (cat : Catalogue) (wf : WellFormed cat) (ft : fits cat ≡ true) (t : T
         let lw : length (entry-bytes e) ≡ family-width (family cat (class-of k)) = entry-length cat wf k e (close-entry cat k e le) in
         let fitting : family-width (family cat (class-of k)) ≤ place-width = rw kc (place-fits cat ft wf (leader cat c) cr) in
         let front : List ℕ = bytes 2 (class-of k) ++ bytes 2 (number-of k) in
-        let lf : length front ≡ 4 = refl in
-        (
+        let lf : length front ≡ 4 = refl in (
           rw (q .0, fill-laid place-width w (entry-bytes e) (inside cat c + off) (q .1) (omega arith)) (laid-behind front w (fill place-width (entry-bytes e)) (inside cat c + off)),
           omega (arith, q .1),
         )
@@ -207,7 +205,7 @@ module _ (cat : Catalogue) (wf : WellFormed cat) (ft : fits cat ≡ true) (t : T
         let q = in-place e le in
         let at : ℕ = place-length * j + (4 + (inside cat c + off)) in
         let g = blocks-laid place place-length place-has-its-length 0 m k j (4 + (inside cat c + off)) w (at-key c wrote) e
-            (rising-up (keys m) (h .rise)) p (f .1) (q .0) (q .1) in
+        (rising-up (keys m) (h .rise)) p (f .1) (q .0) (q .1) in
         let lg = length-gather place place-length place-has-its-length m in
         let small = position-small k j (keys m) p in
         let lk = length-keys m in
@@ -295,6 +293,7 @@ module _ (cat : Catalogue) (wf : WellFormed cat) (ft : fits cat ≡ true) (t : T
         one-slot : (k : ℕ) (e : Entry) → entry-bytes (at-key c wrote e) ≡ laid off w (entry-bytes e) → off + length w ≤ length (entry-bytes e) → length (entry-bytes e) ≤ slot-width
             → slot (k, at-key c wrote e) ≡ laid off w (slot (k, e))
         one-slot k e q r fit = rw (q, fill-laid slot-width w (entry-bytes e) off r fit)
+
         not-two : (k : ℕ) → stands cat k ≡ true → k ≡ key ont-data 0 → ⊥
         not-two k s z = true-false (eqb-true (class-of k) ont-data (rw z (omega arith))) (not-true (both (both s .1) .0))
 

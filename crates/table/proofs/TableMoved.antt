@@ -65,7 +65,7 @@ recount e a m n b =
     let z : length x + 0 ≡ 1 = omega arith in
     let one : laid 0 (n ∷ []) (length m ∷ s) ≡ n ∷ s = refl in
     let in-front : laid 1 (n ∷ []) (x ++ (length m ∷ s)) ≡ x ++ (n ∷ s) =
-        ap (λ (k : ℕ). laid k (n ∷ []) (x ++ (length m ∷ s))) (sym z) ∙ sym (laid-behind x (n ∷ []) (length m ∷ s) 0) ∙ ap (λ (y : List ℕ). x ++ y) one in
+    ap (λ (k : ℕ). laid k (n ∷ []) (x ++ (length m ∷ s))) (sym z) ∙ sym (laid-behind x (n ∷ []) (length m ∷ s) 0) ∙ ap (λ (y : List ℕ). x ++ y) one in
     sym (laid-before (n ∷ []) (x ++ (length m ∷ s)) b 1 (rw (front-length e a m) (omega arith))) ∙ ap (λ (y : List ℕ). y ++ b) in-front
 
 module _ (cat : Catalogue) (wf : WellFormed cat) (ft : fits cat ≡ true) (t : Table) (h : LegalLive cat wf t) where
@@ -93,16 +93,16 @@ module _ (cat : Catalogue) (wf : WellFormed cat) (ft : fits cat ≡ true) (t : T
       let lf : length f ≡ 2 + slots-length = front-length (sh .first) (sh .rest) m in
       let lfill : length (fill places-length g) ≡ places-length = length-fill places-length g in
       let placed : fill places-length (gather place (put k e m)) ≡ inserted q (place (k, e)) (fill places-length g) =
-          ap (λ (b : List ℕ). fill places-length b) (put-blocks place place-length place-has-its-length k e m absent)
-          ∙ fill-insert places-length q place-length (place (k, e)) g lp (omega arith) (omega arith)
-          ∙ inserted-is q places-length place-length (place (k, e)) (fill places-length g) lfill lp in
+      ap (λ (b : List ℕ). fill places-length b) (put-blocks place place-length place-has-its-length k e m absent)
+      ∙ fill-insert places-length q place-length (place (k, e)) g lp (omega arith) (omega arith)
+      ∙ inserted-is q places-length place-length (place (k, e)) (fill places-length g) lfill lp in
       new-pieces sh (put k e m)
       ∙ rw (grown, placed) (
-        sym (
-          ap (λ (b : List ℕ). laid 1 (suc (length m) ∷ []) (inserted (place-at (rank k (keys m))) (place (k, e)) b)) (old-pieces sh)
-          ∙ ap (λ (b : List ℕ). laid 1 (suc (length m) ∷ []) b) (inserted-behind f (place (k, e)) (fill places-length g) (2 + slots-length) q lf (omega arith))
-          ∙ recount (sh .first) (sh .rest) m (suc (length m)) (inserted q (place (k, e)) (fill places-length g))
-        )
+      sym (
+      ap (λ (b : List ℕ). laid 1 (suc (length m) ∷ []) (inserted (place-at (rank k (keys m))) (place (k, e)) b)) (old-pieces sh)
+      ∙ ap (λ (b : List ℕ). laid 1 (suc (length m) ∷ []) b) (inserted-behind f (place (k, e)) (fill places-length g) (2 + slots-length) q lf (omega arith))
+      ∙ recount (sh .first) (sh .rest) m (suc (length m)) (inserted q (place (k, e)) (fill places-length g))
+      )
       )
 
   pub remove-moved : (k j : ℕ) → position k (keys (t .created)) ≡ some j → suc (length (remove k (t .created))) ≡ length (t .created)
@@ -122,14 +122,14 @@ module _ (cat : Catalogue) (wf : WellFormed cat) (ft : fits cat ≡ true) (t : T
       let f : List ℕ = fill ont-data-width (entry-bytes (sh .first)) ++ (length m ∷ fill slots-length (gather slot (sh .rest))) in
       let lf : length f ≡ 2 + slots-length = front-length (sh .first) (sh .rest) m in
       let placed : fill places-length (gather place (remove k m)) ≡ removed q place-length (fill places-length g) =
-          ap (λ (b : List ℕ). fill places-length b) (remove-blocks place place-length place-has-its-length k j 0 m (rising-up (keys m) (h .rise)) p)
-          ∙ fill-remove places-length q place-length g (omega arith) (omega arith)
-          ∙ sym (removed-is q place-length (fill places-length g)) in
+      ap (λ (b : List ℕ). fill places-length b) (remove-blocks place place-length place-has-its-length k j 0 m (rising-up (keys m) (h .rise)) p)
+      ∙ fill-remove places-length q place-length g (omega arith) (omega arith)
+      ∙ sym (removed-is q place-length (fill places-length g)) in
       new-pieces sh (remove k m)
       ∙ rw placed (
-        sym (
-          ap (λ (b : List ℕ). laid 1 (n ∷ []) (removed (place-at j) place-length b)) (old-pieces sh)
-          ∙ ap (λ (b : List ℕ). laid 1 (n ∷ []) b) (removed-behind f (fill places-length g) place-length (2 + slots-length) q lf)
-          ∙ recount (sh .first) (sh .rest) m n (removed q place-length (fill places-length g))
-        )
+      sym (
+      ap (λ (b : List ℕ). laid 1 (n ∷ []) (removed (place-at j) place-length b)) (old-pieces sh)
+      ∙ ap (λ (b : List ℕ). laid 1 (n ∷ []) b) (removed-behind f (fill places-length g) place-length (2 + slots-length) q lf)
+      ∙ recount (sh .first) (sh .rest) m n (removed q place-length (fill places-length g))
+      )
       )

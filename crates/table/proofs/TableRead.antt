@@ -98,7 +98,7 @@ module _ (cat : Catalogue) (wf : WellFormed cat) (ft : fits cat ≡ true) (u : T
               ∙ contents-part (size-of (class cat c)) r n v (legal-sized cat (class cat c) r l) y;
           room = λ n inn.
               let z = entry-room cat fam e c (off n + size-of (class cat c) n) r (family-classes cat wf (leader cat c)) (eq-same (keys e) (keys fam) ks) (le .its-contents) (f .1)
-                  (rw len (offset-fits (size-of (class cat c)) (stored-numbers (class cat c)) n inn)) in
+              (rw len (offset-fits (size-of (class cat c)) (stored-numbers (class cat c)) n inn)) in
               omega arith;
         }
 

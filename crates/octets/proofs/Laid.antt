@@ -1,0 +1,177 @@
+-- Bytes laid over others: what stands before them, in their place and behind them, and what is laid over twice.
+use Prim.Native.Nat.{ℕ, _+_, _-_, _≤_, _<_}
+use native.Mathlib.Nat.{add-assoc, add-zero}
+use native.Mathlib.Omega.{arith}
+use mathlib.Core.Path.{_≡_, refl, sym, _∙_, ap}
+use mathlib.Core.Bool.{true}
+use mathlib.Core.List.{List, [], _++_, append-assoc, append-nil}
+use lib.ListN.{length, take, drop, getD, length-append, length-take, length-drop, take-append-drop, drop-of-length-le, List·getD-append}
+use lib.Seq.{take-at, drop-at, take-append-le, drop-append-le, take-take, take-add, drop-drop, getD-take, getD-drop, length-take-le}
+use borrow.Rule.Slice.PartMut.{midOf, putMid}
+use Rattle.rules.specs.Bytes.{bytes, are-bytes}
+use Rattle.rules.proofs.ByteLaws.{bytes-append, bytes-take, bytes-drop}
+use Rattle.rules.specs.Bytes.{laid}
+
+laid-is : (at : ℕ) (v b : List ℕ) → laid at v b ≡ take at b ++ (v ++ drop (at + length v) b)
+unfolding laid
+laid-is at v b = refl
+
+pub bytes-laid : (at : ℕ) (v b : List ℕ) → are-bytes v ≡ true → are-bytes b ≡ true → are-bytes (laid at v b) ≡ true
+unfolding laid
+bytes-laid at v b h g =
+    bytes-append (take at b) (v ++ drop (at + length v) b) (bytes-take at b g)
+    (bytes-append v (drop (at + length v) b) h (bytes-drop (at + length v) b g))
+
+-- laid over all of them
+pub laid-all : (v b : List ℕ) → length v ≡ length b → laid 0 v b ≡ v
+unfolding laid
+laid-all v b e =
+    let z : drop (0 + length v) b ≡ [] = drop-of-length-le b {i = 0 + length v} (omega arith) in
+    rw z (append-nil v)
+
+-- a number of two bytes, as `put_number` writes it
+pub laid-number : (i n : ℕ) (b : List ℕ) → take i b ++ (bytes 2 n ++ drop (i + 2) b) ≡ laid i (bytes 2 n) b
+unfolding laid bytes
+laid-number i n b = refl
+
+-- what is laid over from p + k on is laid over the rest from k on
+pub laid-split : (p k : ℕ) (v b : List ℕ) → laid (p + k) v b ≡ take p b ++ laid k v (drop p b)
+unfolding laid
+laid-split p k v b = rw (
+  take-add p k b,
+  append-assoc (take p b) (take k (drop p b)) (v ++ drop (p + k + length v) b),
+  drop-drop (k + length v) p b,
+  add-assoc p k (length v),
+)
+
+-- a part that was lent and came back with other bytes
+pub laid-part : (a n : ℕ) (v b : List ℕ) → length v ≡ n → putMid a n b v ≡ laid a v b
+unfolding laid
+laid-part a n v b e = rw (drop-drop n a b, e)
+
+module _ (at : ℕ) (v b : List ℕ) (h : at + length v ≤ length b) where
+  front : length (take at b ++ v) ≡ at + length v
+  front = simp (length-append, length-take) (omega arith)
+
+  joined : laid at v b ≡ (take at b ++ v) ++ drop (at + length v) b
+  unfolding laid
+  joined = sym (append-assoc (take at b) v (drop (at + length v) b))
+
+  pub length-laid : length (laid at v b) ≡ length b
+  unfolding laid
+  length-laid = simp (length-append, length-take, length-drop) (omega arith)
+
+  pub take-laid : take (at + length v) (laid at v b) ≡ take at b ++ v
+  take-laid = rw joined (take-at (take at b ++ v) (drop (at + length v) b) (at + length v) front)
+
+  pub drop-laid : drop at (laid at v b) ≡ v ++ drop (at + length v) b
+  unfolding laid
+  drop-laid = drop-at (take at b) (v ++ drop (at + length v) b) at (length-take-le at b (omega arith))
+
+  pub take-laid-before : (n : ℕ) → n ≤ at → take n (laid at v b) ≡ take n b
+  unfolding laid
+  take-laid-before n g =
+      take-append-le n (take at b) (v ++ drop (at + length v) b) (rw (length-take-le at b (omega arith)) g) ∙ take-take n at b g
+
+  pub part-laid-inside : take (length v) (drop at (laid at v b)) ≡ v
+  part-laid-inside = rw drop-laid (take-at v (drop (at + length v) b) (length v) refl)
+
+  pub drop-laid-behind : (n : ℕ) → at + length v ≤ n → drop n (laid at v b) ≡ drop n b
+  drop-laid-behind n g =
+      let e : n ≡ at + length v + (n - (at + length v)) = omega arith in
+      let d : drop (at + length v) (laid at v b) ≡ drop (at + length v) b =
+      rw joined (drop-at (take at b ++ v) (drop (at + length v) b) (at + length v) front) in
+      rw (e, ← drop-drop (n - (at + length v)) (at + length v) (laid at v b), ← drop-drop (n - (at + length v)) (at + length v) b, d)
+
+  pub getD-laid-before : (i d : ℕ) → i < at → getD (laid at v b) i d ≡ getD b i d
+  getD-laid-before i d g = sym (getD-take at (laid at v b) i d g) ∙ rw (take-laid-before at (omega arith)) (getD-take at b i d g)
+
+  pub getD-laid-inside : (i d : ℕ) → i < length v → getD (laid at v b) (at + i) d ≡ getD v i d
+  getD-laid-inside i d g = sym (getD-drop at (laid at v b) i d) ∙ rw drop-laid (List·getD-append v (drop (at + length v) b) d i g)
+
+  pub getD-laid-behind : (i d : ℕ) → at + length v ≤ i → getD (laid at v b) i d ≡ getD b i d
+  getD-laid-behind i d g =
+      let e : getD (drop i (laid at v b)) 0 d ≡ getD b (i + 0) d = rw (drop-laid-behind i g) (getD-drop i b 0 d) in
+      rw (getD-drop i (laid at v b) 0 d, add-zero i) at e
+
+  -- bytes behind are left as they are
+  pub laid-append : (c : List ℕ) → laid at v (b ++ c) ≡ laid at v b ++ c
+  unfolding laid
+  laid-append c = rw (
+    take-append-le at b c (omega arith),
+    drop-append-le (at + length v) b c h,
+    append-assoc (take at b) (v ++ drop (at + length v) b) c,
+    append-assoc v (drop (at + length v) b) c,
+  )
+
+  -- bytes laid behind those
+  pub laid-next : (w : List ℕ) → laid (at + length v) w (laid at v b) ≡ laid at (v ++ w) b
+  laid-next w = rw (
+    laid-is (at + length v) w (laid at v b),
+    take-laid,
+    drop-laid-behind (at + length v + length w) (omega arith),
+    laid-is at (v ++ w) b,
+    length-append v w,
+    append-assoc v w (drop (at + (length v + length w)) b),
+    ← add-assoc at (length v) (length w),
+    append-assoc (take at b) v (w ++ drop (at + length v + length w) b),
+  )
+
+  -- bytes laid over the same place
+  pub laid-over : (w : List ℕ) → length w ≡ length v → laid at w (laid at v b) ≡ laid at w b
+  laid-over w e = rw (
+    laid-is at w (laid at v b),
+    laid-is at w b,
+    take-laid-before at (omega arith),
+    drop-laid-behind (at + length w) (omega arith),
+  )
+
+-- the bytes from p on, and the first n, of what was laid over among them
+pub drop-laid-around : (p k : ℕ) (v b : List ℕ) → p ≤ length b → drop p (laid (p + k) v b) ≡ laid k v (drop p b)
+drop-laid-around p k v b h = rw (laid-split p k v b) (drop-at (take p b) (laid k v (drop p b)) p (length-take-le p b h))
+
+pub take-laid-around : (at n : ℕ) (v b : List ℕ) → at + length v ≤ n → n ≤ length b → take n (laid at v b) ≡ laid at v (take n b)
+take-laid-around at n v b g h =
+    let l : length (take n b) ≡ n = length-take-le n b h in
+    let a : at + length v ≤ length (take n b) = omega arith in
+    let e : laid at v b ≡ laid at v (take n b) ++ drop n b =
+    ap (laid at v) (sym (take-append-drop n b)) ∙ laid-append at v (take n b) a (drop n b) in
+    rw e (take-at (laid at v (take n b)) (drop n b) n (length-laid at v (take n b) a ∙ l))
+
+-- a part that ends before the place
+pub part-laid-before : (at : ℕ) (v b : List ℕ) → at + length v ≤ length b → (k n : ℕ) → k + n ≤ at
+    → take n (drop k (laid at v b)) ≡ take n (drop k b)
+part-laid-before at v b h k n g =
+    let e : k + (at - k) ≡ at = omega arith in
+    let d : drop k (laid at v b) ≡ laid (at - k) v (drop k b) = rw e at (drop-laid-around k (at - k) v b (omega arith)) in
+    rw d (take-laid-before (at - k) v (drop k b) (simp length-drop (omega arith)) n (omega arith))
+
+-- bytes laid at two places that are apart, in either order
+pub laid-apart : (at k : ℕ) (v w b : List ℕ) → at + length v ≤ k → k + length w ≤ length b
+    → laid k w (laid at v b) ≡ laid at v (laid k w b)
+laid-apart at k v w b g h =
+    let n = at + length v in
+    let e : n + (k - n) ≡ k = omega arith in
+    let d : drop n (laid k w b) ≡ laid (k - n) w (drop n b) = rw e at (drop-laid-around n (k - n) w b (omega arith)) in
+    let l : laid k w (laid at v b) ≡ take n (laid at v b) ++ laid (k - n) w (drop n (laid at v b)) =
+    rw e at (laid-split n (k - n) w (laid at v b)) in
+    rw (
+      l,
+      take-laid at v b (omega arith),
+      drop-laid-behind at v b (omega arith) n (omega arith),
+      laid-is at v (laid k w b),
+      take-laid-before k w b h at (omega arith),
+      d,
+      append-assoc (take at b) v (laid (k - n) w (drop n b)),
+    )
+
+-- bytes laid over a part that was lent
+pub laid-in-part : (a n at : ℕ) (v b : List ℕ) → at + length v ≤ n → a + n ≤ length b
+    → putMid a n b (laid at v (midOf a n b)) ≡ laid (a + at) v b
+laid-in-part a n at v b g h =
+    let m : at + length v ≤ length (midOf a n b) = simp (length-take, length-drop) (omega arith) in
+    rw (
+      laid-split a at v b,
+      ← laid-append at v (midOf a n b) m (drop n (drop a b)),
+      take-append-drop n (drop a b),
+    )
