@@ -23,14 +23,14 @@ pub fn number_at(s: &[u8], i: usize) -> u16
 }
 
 // The high byte of a number.
-fn high(n: u16) -> u8
+pub fn high(n: u16) -> u8
     ensures { λ r. ⌜ r ≡ n / 256 ⌝ }
 {
     (n / 256) as u8
 }
 
 // The low byte of a number.
-fn low(n: u16) -> u8
+pub fn low(n: u16) -> u8
     ensures { λ r. ⌜ r ≡ n % 256 ⌝ }
 {
     (n % 256) as u8
