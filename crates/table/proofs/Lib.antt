@@ -9,3 +9,6 @@ pub mod BlocksMoved
 pub mod TableMoved
 pub mod StoreLaid
 pub mod StateLaid
+pub mod Turns
+pub mod BlockMoved
+pub mod PlaceKeys

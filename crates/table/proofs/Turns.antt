@@ -1,0 +1,136 @@
+-- The loops over the places in use: what one turn shows of the answer, and what the end shows.
+use Prim.Native.Nat.{ℕ, suc, _+_, _-_, _≤_, _<_}
+use native.Mathlib.Nat.{add-assoc, add-zero}
+use native.Mathlib.Omega.{arith}
+use mathlib.Core.Path.{_≡_, refl, sym, _∙_, ap}
+use mathlib.Core.Bool.{true}
+use mathlib.Core.Option.{Option, none, some}
+use mathlib.Core.List.{List, [], _∷_}
+use lib.ListN.{take, drop}
+use lib.Seq.{getD-take, getD-drop, drop-drop}
+use lib.Dec.{eqb}
+use Rattle.rules.specs.Maps.{_and_}
+use Rattle.rules.specs.Bytes.{byte, two}
+use Rattle.rules.specs.Catalogue.{key}
+use Rattle.rules.proofs.Laws.{eqb-true, eqb-false, lt-ltb, le-ltb}
+use Rattle.store.specs.Layout.{slots-length, place-length}
+use Rattle.table.specs.Spots.{one-on, position, rank, place-at, at-position}
+use Rattle.table.specs.Places.{place-keys, keys-in, one-holds, how-many-hold}
+
+pub two-drop : (b : List ℕ) (at k : ℕ) → two (drop at b) k ≡ two b (at + k)
+two-drop b at k = simp (getD-drop, add-assoc)
+
+two-start : (b : List ℕ) (at : ℕ) → two (drop at b) 0 ≡ two b at
+two-start b at = two-drop b at 0 ∙ ap (two b) (add-zero at)
+
+pub two-take : (n : ℕ) (b : List ℕ) (k : ℕ) → k + 1 < n → two (take n b) k ≡ two b k
+two-take n b k h = rw (getD-take n b k 0 (omega arith), getD-take n b (k + 1) 0 h)
+
+-- the keys from the i-th of n places on
+abbrev pub keys-from : List ℕ → ℕ → ℕ → List ℕ
+keys-from b n i = place-keys (n - i) (drop (place-at i) b)
+
+-- the key of the i-th place
+abbrev pub key-of : List ℕ → ℕ → ℕ
+key-of b i = key (two b (place-at i)) (two b (place-at i + 2))
+
+pub keys-start : (b : List ℕ) (n : ℕ) → n ≡ byte b 1 → keys-from b n 0 ≡ keys-in b
+keys-start b n h = let e : n - 0 ≡ byte b 1 = omega arith in rw e
+
+module _ (b : List ℕ) (n i : ℕ) where
+  pub keys-end : n ≤ i → keys-from b n i ≡ []
+  unfolding place-keys
+  keys-end h = let e : n - i ≡ 0 = omega arith in rw e
+
+  pub keys-next : i < n → keys-from b n i ≡ key-of b i ∷ keys-from b n (i + 1)
+  unfolding place-keys
+  keys-next h =
+      let e : n - i ≡ suc (n - (i + 1)) = omega arith in
+      let f : place-at i + place-length ≡ place-at (i + 1) = omega arith in
+      let d : List ℕ = drop (place-at i) b in
+      let c : two (take place-length d) 0 ≡ two b (place-at i) = two-take place-length d 0 (omega arith) ∙ two-start b (place-at i) in
+      let m : two (take place-length d) 2 ≡ two b (place-at i + 2) = two-take place-length d 2 (omega arith) ∙ two-drop b (place-at i) 2 in
+      rw (e, c, m, drop-drop place-length (place-at i) b, f)
+
+-- ---- the place of a key
+
+-- a position counted from the i-th place on
+abbrev pub counted : ℕ → Option ℕ → Option ℕ
+counted i o = at-position (λ j. i + j) o
+
+pub counted-start : (o : Option ℕ) → counted 0 o ≡ o
+counted-start none = refl
+counted-start (some j) = ap some (omega arith)
+
+counted-on : (i : ℕ) (o : Option ℕ) → counted (i + 1) o ≡ counted i (one-on o)
+counted-on i none = refl
+counted-on i (some j) = ap some (omega arith)
+
+module _ (b : List ℕ) (n i k : ℕ) (z : Option ℕ) (e : counted i (position k (keys-from b n i)) ≡ z) where
+  pub found-here : i < n → k ≡ key-of b i → some i ≡ z
+  unfolding position
+  found-here h q = ap some (sym (add-zero i)) ∙ (rw (keys-next b n i h, eqb-true k (key-of b i) q) at e)
+
+  pub found-later : i < n → (k ≡ key-of b i → ⊥) → counted (i + 1) (position k (keys-from b n (i + 1))) ≡ z
+  unfolding position
+  found-later h q = counted-on i (position k (keys-from b n (i + 1))) ∙ (rw (keys-next b n i h, eqb-false k (key-of b i) q) at e)
+
+  pub found-nowhere : n ≤ i → none ≡ z
+  unfolding position
+  found-nowhere h = rw (keys-end b n i h) at e
+
+-- ---- the rank of a key
+
+module _ (b : List ℕ) (n i k : ℕ) where
+  pub rank-here : i < n → k < key-of b i → rank k (keys-from b n i) ≡ 0
+  unfolding rank
+  rank-here h q = rw (keys-next b n i h, lt-ltb k (key-of b i) q)
+
+  pub rank-later : i < n → key-of b i ≤ k → rank k (keys-from b n i) ≡ suc (rank k (keys-from b n (i + 1)))
+  unfolding rank
+  rank-later h q = rw (keys-next b n i h, le-ltb k (key-of b i) q)
+
+  pub rank-end : n ≤ i → rank k (keys-from b n i) ≡ 0
+  unfolding rank
+  rank-end h = rw (keys-end b n i h)
+
+-- ---- how many hold a number
+
+-- how many from the i-th of n places on
+abbrev pub hold-from : List ℕ → ℕ → ℕ → ℕ → ℕ → ℕ → ℕ
+hold-from b c at m n i = how-many-hold c at m (n - i) (drop (place-at i) b)
+
+pub hold-start : (b : List ℕ) (c at m n : ℕ) → n ≡ byte b 1
+    → hold-from b c at m n 0 ≡ how-many-hold c at m (byte b 1) (drop (2 + slots-length) b)
+hold-start b c at m n h = let e : n - 0 ≡ byte b 1 = omega arith in rw e
+
+module _ (b : List ℕ) (c at m n i : ℕ) where
+  pub hold-end : n ≤ i → hold-from b c at m n i ≡ 0
+  unfolding how-many-hold
+  hold-end h = let e : n - i ≡ 0 = omega arith in rw e
+
+  hold-next : i < n → hold-from b c at m n i ≡ one-holds c at m (drop (place-at i) b) + hold-from b c at m n (i + 1)
+  unfolding how-many-hold
+  hold-next h =
+      let e : n - i ≡ suc (n - (i + 1)) = omega arith in
+      let f : place-at i + place-length ≡ place-at (i + 1) = omega arith in
+      rw (e, drop-drop place-length (place-at i) b, f)
+
+  -- the class and the number, read in the bytes that begin with the place
+  class-is : two b (place-at i) ≡ c → eqb (two (drop (place-at i) b) 0) c ≡ true
+  class-is p = eqb-true (two (drop (place-at i) b) 0) c (two-start b (place-at i) ∙ p)
+
+  number-is : two (drop (place-at i) b) (4 + at) ≡ two b (place-at i + (4 + at))
+  number-is = two-drop b (place-at i) (4 + at)
+
+  pub hold-here : i < n → two b (place-at i) ≡ c → two b (place-at i + (4 + at)) ≡ m → hold-from b c at m n i ≡ 1 + hold-from b c at m n (i + 1)
+  unfolding _and_
+  hold-here h p q = rw (hold-next h, class-is p, eqb-true (two (drop (place-at i) b) (4 + at)) m (number-is ∙ q))
+
+  pub other-number : i < n → two b (place-at i) ≡ c → (two b (place-at i + (4 + at)) ≡ m → ⊥) → hold-from b c at m n i ≡ hold-from b c at m n (i + 1)
+  unfolding _and_
+  other-number h p q = rw (hold-next h, class-is p, eqb-false (two (drop (place-at i) b) (4 + at)) m (λ z. q (sym number-is ∙ z))) (omega arith)
+
+  pub other-class : i < n → (two b (place-at i) ≡ c → ⊥) → hold-from b c at m n i ≡ hold-from b c at m n (i + 1)
+  unfolding _and_
+  other-class h p = rw (hold-next h, eqb-false (two (drop (place-at i) b) 0) c (λ z. p (sym (two-start b (place-at i)) ∙ z))) (omega arith)

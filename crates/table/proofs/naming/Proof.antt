@@ -1,0 +1,91 @@
+use Prim.Native.Nat.{_+_, _-_, _≤_}
+use native.Mathlib.Omega.{arith}
+use mathlib.Core.Path.{_≡_, sym, _∙_}
+use mathlib.Core.Logic.{⊎-elim}
+use Rattle.table.proofs.Turns.{hold-from, hold-here, other-number, other-class, hold-start, hold-end}
+use borrow.Author.Needs.{needs}
+use Rattle.table.proofs.naming.Statement.{statement}
+use Rattle.table.proofs.naming.Tie as tie
+
+-- those counted, and those from the i-th place on, make the answer
+abbrev Inv-loop : tie.InvT-loop
+Inv-loop b class at number n count₀ i₀ count i = (i ≤ n) × (count ≤ i) × (count + hold-from b class at number n i ≡ hold-from b class at number n 0)
+
+abbrev μ-loop : tie.MeasureT-loop
+μ-loop b class at number n count₀ i₀ count i = n - i
+
+in-use-requires : tie.Need-in-use-requires Inv-loop μ-loop
+in-use-requires c κs = search needs
+
+loop-holds : tie.Need-loop-holds Inv-loop μ-loop
+loop-holds c = (search needs, search needs, omega arith)
+
+mul-p : tie.Need-mul-p Inv-loop μ-loop
+mul-p c = search needs
+
+add-p : tie.Need-add-p Inv-loop μ-loop
+add-p c = search needs
+
+number-at-requires : tie.Need-number-at-requires Inv-loop μ-loop
+number-at-requires c κs = search needs
+
+add-number-at : tie.Need-add-number-at Inv-loop μ-loop
+add-number-at c = search needs
+
+add-number-at-2 : tie.Need-add-number-at-2 Inv-loop μ-loop
+add-number-at-2 c = search needs
+
+number-at-requires-2 : tie.Need-number-at-requires-2 Inv-loop μ-loop
+number-at-requires-2 c κs = search needs
+
+add-count : tie.Need-add-count Inv-loop μ-loop
+add-count c = search needs
+
+add-i : tie.Need-add-i Inv-loop μ-loop
+add-i c = search needs
+
+loop-less : tie.Need-loop-less Inv-loop μ-loop
+loop-less c = search needs
+
+loop-again : tie.Need-loop-again Inv-loop μ-loop
+loop-again c =
+    let l = c .before .before .before in
+    let a = l .before .before .before .args in
+    let p = c .before .number-at .ensures in
+    ⊎-elim
+    (λ w. omega (arith, hold-here (a .b .now) (a .class) (a .at) (a .number) (l .before .in-use .result) (l .loop .i) (omega arith) (sym p ∙ w .0 .taken) (sym (w .1 .ensures) ∙ w .2 .taken)))
+    (λ v. ⊎-elim
+    (λ w. omega (arith, other-number (a .b .now) (a .class) (a .at) (a .number) (l .before .in-use .result) (l .loop .i) (omega arith) (sym p ∙ w .0 .taken) (λ q. w .2 .left (w .1 .ensures ∙ q))))
+    (λ w. omega (arith, other-class (a .b .now) (a .class) (a .at) (a .number) (l .before .in-use .result) (l .loop .i) (omega arith) (λ q. w .0 .left (p ∙ q))))
+    v)
+    (c .if1 .came)
+
+returns : tie.Need-returns Inv-loop μ-loop
+returns c =
+    let l = c .before in
+    let a = l .before .before .before .args in
+    omega (
+      arith,
+      hold-end (a .b .now) (a .class) (a .at) (a .number) (l .before .in-use .result) (l .loop .i) (omega arith),
+      hold-start (a .b .now) (a .class) (a .at) (a .number) (l .before .in-use .result) (l .before .in-use .ensures),
+    )
+
+pub naming-spec : {M : Type 1} → statement M
+naming-spec =
+    tie.close
+    (tie.spec
+    Inv-loop
+    μ-loop
+    in-use-requires
+    loop-holds
+    mul-p
+    add-p
+    number-at-requires
+    add-number-at
+    add-number-at-2
+    number-at-requires-2
+    add-count
+    add-i
+    loop-less
+    loop-again
+    returns)
