@@ -11,3 +11,4 @@ pub mod Soundness
 pub mod Agreement
 pub mod Built
 pub mod Examples
+pub mod EntryExamples

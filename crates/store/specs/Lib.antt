@@ -1,4 +1,5 @@
 pub mod Layout
+pub mod Positions
 pub mod Decode
 pub mod Fitting
 pub mod Entries

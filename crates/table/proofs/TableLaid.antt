@@ -28,7 +28,7 @@ use Rattle.store.proofs.Widths.{places-are-enough, slots-are-enough, place-fits
 use Rattle.store.proofs.TablesBack.{slot-length, place-has-its-length}
 use Rattle.kept.proofs.NewContents.{attributes-in-order}
 use Rattle.kept.proofs.Tables.{LegalEntry, open-entry, close-entry, LegalTable, LegalLive, length-each}
-use Rattle.table.specs.Spots.{live-bytes, position, before, inside, offset, slot-at, place-at, at-position, spot}
+use Rattle.table.specs.Spots.{live-bytes, position, before, inside, offset, slot-at, place-at, at-position, spot-among, spot}
 use Rattle.table.proofs.Laid.{laid-behind, laid-before, fill-laid}
 use Rattle.table.proofs.ContentsLaid.{contents-laid, offset-fits, entry-laid, entry-room}
 use Rattle.table.proofs.BlocksLaid.{blocks-laid}
@@ -194,7 +194,7 @@ module _ (cat : Catalogue) (wf : WellFormed cat) (ft : fits cat ≡ true) (t : T
         ∙ ap (λ (b : List ℕ). laid (2 + slots-length + at) w b) (sym (ap live-bytes old ∙ in-pieces cat wf (sh .first) (sh .rest) m (sh .rest-keys)))
 
     pub created-laid : (o : ℕ) → spot cat t c i ≡ some o → live-bytes written ≡ laid (o + off) w (live-bytes t)
-    unfolding spot
+    unfolding spot-among
     created-laid o sp =
         let k : ℕ = key (leader cat c) i in
         let m : Map Entry = t .created in
@@ -323,7 +323,7 @@ module _ (cat : Catalogue) (wf : WellFormed cat) (ft : fits cat ≡ true) (t : T
   -- ---- any instance
 
   pub write-laid : (o : ℕ) → known cat c ≡ true → spot cat t c i ≡ some o → live-bytes written ≡ laid (o + off) w (live-bytes t)
-  unfolding spot
+  unfolding spot-among
   write-laid o kn sp = cases (is-created (class cat (leader cat c) .creation))
       (λ cr. created-laid cr o sp)
       (λ au. cases (eqb c ont-data and eqb i 0)

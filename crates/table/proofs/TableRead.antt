@@ -28,7 +28,7 @@ use Rattle.store.proofs.Widths.{places-are-enough, slots-are-enough, place-fits
 use Rattle.store.proofs.TablesBack.{slot-length, place-has-its-length}
 use Rattle.kept.proofs.Tables.{LegalEntry, open-entry, close-entry, LegalTable}
 use Rattle.kept.proofs.Holds.{There, holds-there, found-in}
-use Rattle.table.specs.Spots.{position, before, inside, offset, slot-at, place-at, at-position, spot}
+use Rattle.table.specs.Spots.{position, before, inside, offset, slot-at, place-at, at-position, spot-among, spot}
 use Rattle.table.proofs.Parted.{part, part-behind, part-before, part-fill, contents-part, entry-part, blocks-part}
 use Rattle.table.proofs.ContentsLaid.{offset-fits, entry-room}
 use Rattle.table.proofs.Positions.{position-among, position-found, position-small}
@@ -112,7 +112,7 @@ module _ (cat : Catalogue) (wf : WellFormed cat) (ft : fits cat ≡ true) (u : T
 
     -- a created instance
     created-spot : (o : ℕ) → is-created (class cat (leader cat c) .creation) ≡ true → spot cat u c i ≡ some o → AtSpot o
-    unfolding spot holds contents entry place bytes
+    unfolding spot-among holds contents entry place bytes
     created-spot o cr sp =
         let k : ℕ = key (leader cat c) i in
         let m : Map Entry = u .created in
@@ -205,7 +205,7 @@ module _ (cat : Catalogue) (wf : WellFormed cat) (ft : fits cat ≡ true) (u : T
         first-of (e ∷ m) g = rw (eqb-true c (e .0) (sym (g (e .0) (or-left (among (e .0) (keys m)) (eqb-true (e .0) (e .0) refl)))))
 
     pub at-spot : c ≢ ont-data → (o : ℕ) → spot cat u c i ≡ some o → AtSpot o
-    unfolding spot _and_
+    unfolding spot-among _and_
     at-spot other o sp = cases (is-created (class cat (leader cat c) .creation))
         (λ cr. created-spot o cr sp)
         (λ au. at-some slot-at (position (key c i) (automatic-keys cat)) o (rw (au, eqb-false c ont-data other) at sp) (λ j p eq. slot-spot o j eq p))
@@ -216,7 +216,7 @@ module _ (cat : Catalogue) (wf : WellFormed cat) (ft : fits cat ≡ true) (u : T
 
     -- nothing is at no spot
     pub no-spot : c ≢ ont-data → spot cat u c i ≡ none → holds cat u c i ≡ false
-    unfolding spot _and_
+    unfolding spot-among _and_
     no-spot other sp = cases (holds cat u c i)
         (λ y.
         let x : There cat u c i = holds-there cat u c i y in

@@ -13,6 +13,8 @@ use Rattle.rules.specs.Legal.{automatic-keys}
 use Rattle.rules.specs.Walks.{frozen}
 use Rattle.store.specs.Layout.{ont-data-width, slot-width, slots-length, place-length, entry-bytes, code-table, contents-width}
 use Rattle.store.specs.Decode.{read-live}
+unfoldable pub use Rattle.store.specs.Positions.{position, before, offset}
+pub use Rattle.store.specs.Positions.{one-on, inside}
 
 -- a byte in front, then a table: class 2's contents before the live one, a mark before the frozen one
 unfoldable pub live-bytes : Table → List ℕ
@@ -21,32 +23,10 @@ live-bytes t = fill ont-data-width (entry-bytes (entry (key ont-data 0) t)) ++ c
 unfoldable pub live-of : Catalogue → List ℕ → Table
 live-of cat b = read-live cat (take ont-data-width b) (drop ont-data-width b)
 
--- the first place of a number in a list
-abbrev pub one-on : Option ℕ → Option ℕ
-one-on none = none
-one-on (some j) = some (suc j)
-
-unfoldable pub position : ℕ → List ℕ → Option ℕ
-position k [] = none
-position k (x ∷ l) = cond (eqb k x) (some 0) (one-on (position k l))
-
 -- how many numbers of a rising list come before k
 unfoldable pub rank : ℕ → List ℕ → ℕ
 rank k [] = 0
 rank k (x ∷ l) = cond (ltb k x) 0 (suc (rank k l))
-
--- the bytes of a family before those of class c
-unfoldable pub before : Map Class → ℕ → ℕ
-before [] c = 0
-before (e ∷ m) c = cond (eqb c (e .0)) 0 (contents-width (e .1) + before m c)
-
-abbrev pub inside : Catalogue → ℕ → ℕ
-inside cat c = before (family cat (leader cat c)) c
-
--- where the contents of attribute n begin, among attributes of these numbers
-unfoldable pub offset : (ℕ → ℕ) → List ℕ → ℕ → ℕ
-offset size [] n = 0
-offset size (m ∷ l) n = cond (eqb n m) 0 (size m + offset size l n)
 
 -- in bytes with one byte in front: the number of places in use, the slots, the places
 abbrev pub slot-at : ℕ → ℕ
@@ -59,12 +39,15 @@ abbrev pub at-position : (ℕ → ℕ) → Option ℕ → Option ℕ
 at-position f none = none
 at-position f (some j) = some (f j)
 
--- where the contents of instance i of class c begin: class 2's at the front
-unfoldable pub spot : Catalogue → Table → ℕ → ℕ → Option ℕ
-spot cat t c i =
+-- where the contents of instance i of class c begin, among created instances with these keys; class 2's at the front
+unfoldable pub spot-among : Catalogue → List ℕ → ℕ → ℕ → Option ℕ
+spot-among cat made c i =
     cond (is-created (class cat (leader cat c) .creation))
-    (at-position (λ j. place-at j + 4 + inside cat c) (position (key (leader cat c) i) (keys (t .created))))
+    (at-position (λ j. place-at j + 4 + inside cat c) (position (key (leader cat c) i) made))
     (cond (eqb c ont-data and eqb i 0) (some 0) (at-position slot-at (position (key c i) (automatic-keys cat))))
+
+abbrev pub spot : Catalogue → Table → ℕ → ℕ → Option ℕ
+spot cat t c i = spot-among cat (keys (t .created)) c i
 
 -- ---- bytes that move
 
