@@ -1,12 +1,8 @@
 -- The code tells the two products apart by one bool: is it the large one?
 use Prim.Native.Nat.{ℕ}
 use mathlib.Core.Bool.{Bool, true, false}
-use Rattle.rules.specs.Catalogue.{Class, Catalogue, class}
-use Rattle.rules.specs.Products.{Small, Large}
-
-unfoldable pub cat-of : Bool → Catalogue
-cat-of true = Large
-cat-of false = Small
+use Rattle.rules.specs.Catalogue.{Class, class}
+unfoldable pub use Rattle.rules.specs.Products.{cat-of}
 
 abbrev pub class-for : Bool → ℕ → Class
 class-for large c = class (cat-of large) c

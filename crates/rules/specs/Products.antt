@@ -210,6 +210,11 @@ Products = Map Catalogue
 unfoldable pub built-products : Products
 built-products = (1, Small) ∷ (2, Large) ∷ []
 
+-- the code tells the two apart by one bool: is it the large one?
+unfoldable pub cat-of : Bool → Catalogue
+cat-of true = Large
+cat-of false = Small
+
 unfoldable pub computing-products : ℕ
-unfolding any from_to_ one-of an-existing existing-where with-rights RW RL RC RWC from-source first first-copied-from R with-AVC ont-data-class uni-class uni-more profile-class bridge-class bridge-more port-class port-more Small Large built-products
+unfolding any from_to_ one-of an-existing existing-where with-rights RW RL RC RWC from-source first first-copied-from R with-AVC ont-data-class uni-class uni-more profile-class bridge-class bridge-more port-class port-more Small Large built-products cat-of
 computing-products = 0

@@ -2,15 +2,16 @@
 use Prim.Native.Nat.{ℕ, zero, suc, _+_, _*_, _-_, _/_, _%_, _≤_, _<_}
 use native.Mathlib.Omega.{arith}
 use mathlib.Core.Path.{_≡_, refl, sym, _∙_, ap}
-use mathlib.Core.Bool.{Bool, true, false}
+use mathlib.Core.Bool.{true}
 use mathlib.Core.List.{List, [], _∷_, _++_, append-assoc}
-use lib.ListN.{length, take, drop, replicate, length-append, length-replicate, length-take, length-drop, take-append-drop}
-use lib.Seq.{length-take-le, take-append-add, take-at, drop-at}
+use lib.ListN.{length, take, drop, replicate, length-append, length-drop, take-append-drop}
+use lib.Seq.{length-take-le}
 use lib.Dec.{eqb}
 use Rattle.rules.specs.Maps.{_and_, all, same}
-use Rattle.rules.specs.Bytes.{byte, two, bytes, fill, are-bytes, all-zero}
-use Rattle.rules.proofs.Laws.{cases, never, both, and-true, bool-eq, eqb-true, eqb-eq, same-eq, eq-same, same-refl, true-and, ltb-lt}
+use Rattle.rules.specs.Bytes.{two, bytes, fill, are-bytes, all-zero}
+use Rattle.rules.proofs.Laws.{both, and-true, bool-eq, eqb-true, eqb-eq, same-refl, true-and, ltb-lt}
 use Rattle.store.proofs.BytesBack.{fill-keeps}
+use Rattle.soundness.proofs.Conjunctions.{and-assoc}
 
 -- two blocks of one length, and what follows them
 pub same-append : (x y u v : List ℕ) → length x ≡ length u → same (x ++ y) (u ++ v) ≡ (same x u and same y v)
@@ -18,10 +19,7 @@ unfolding same
 same-append [] y [] v h = sym (true-and (same y v))
 same-append [] y (a ∷ u) v h = absurd (omega (arith, h))
 same-append (a ∷ x) y [] v h = absurd (omega (arith, h))
-same-append (a ∷ x) y (b ∷ u) v h = rw (same-append x y u v (omega (arith, h)))
-    (bool-eq (eqb a b and (same x u and same y v)) ((eqb a b and same x u) and same y v)
-    (λ p. let q = both p in let r = both (q .1) in and-true (and-true (q .0) (r .0)) (r .1))
-    (λ p. let q = both p in let r = both (q .0) in and-true (r .0) (and-true (r .1) (q .1))))
+same-append (a ∷ x) y (b ∷ u) v h = rw (same-append x y u v (omega (arith, h))) (sym (and-assoc (eqb a b) (same x u) (same y v)))
 
 -- a block is the front of what it is compared with
 pub same-front : (x y b : List ℕ) (n : ℕ) → length x ≡ n → n ≤ length b → same (x ++ y) b ≡ (same x (take n b) and same y (drop n b))

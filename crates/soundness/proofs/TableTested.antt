@@ -1,21 +1,21 @@
 -- A table's bytes are those of a legal table exactly if they pass the test.
-use Prim.Native.Nat.{ℕ, zero, suc, _+_, _*_, _-_, _/_, _%_, _≤_, _<_}
+use Prim.Native.Nat.{ℕ, zero, suc, _+_, _*_, _-_, _≤_}
 use native.Mathlib.Omega.{arith}
 use mathlib.Core.Path.{_≡_, refl, sym, _∙_, ap}
-use mathlib.Core.Bool.{Bool, true, false, not}
-use mathlib.Core.List.{List, [], _∷_, _++_, append-assoc}
-use lib.ListN.{length, take, drop, getD, replicate, length-append, length-take, length-drop}
-use lib.Seq.{length-take-le, take-add, drop-drop, drop-cons, take-suc}
-use lib.Dec.{eqb, ltb, leb}
+use mathlib.Core.Bool.{Bool, true}
+use mathlib.Core.List.{List, [], _∷_, _++_}
+use lib.ListN.{length, take, drop, length-append, length-drop}
+use lib.Seq.{length-take-le, take-add, drop-drop}
+use lib.Dec.{leb}
 use Rattle.rules.specs.Maps.{_and_, Map, keys, every, gather, all, same, rising}
 use Rattle.rules.specs.Bytes.{byte, two, bytes, fill, all-zero, are-bytes}
 use Rattle.rules.specs.Masks.{total}
-use Rattle.rules.specs.Catalogue.{Class, Catalogue, class, size-of, stored-numbers, is-created, family, key}
-use Rattle.rules.specs.State.{Contents, Entry, Table, class-of, number-of}
+use Rattle.rules.specs.Catalogue.{Class, Catalogue, class, size-of, stored-numbers, is-created, family}
+use Rattle.rules.specs.State.{Entry, class-of, number-of}
 use Rattle.rules.specs.Legal.{legal-contents, legal-entry, legal-table, legal-frozen, automatic-keys}
 use Rattle.rules.specs.Commands.{cut}
 use Rattle.rules.specs.WellFormed.{WellFormed}
-use Rattle.rules.proofs.Laws.{cases, never, true-false, both, and-true, bool-eq, true-and, eqb-true, ltb-lt, lt-ltb, leb-le, le-leb, same-eq, same-refl, eq-same, every-imp}
+use Rattle.rules.proofs.Laws.{cases, never, both, and-true, bool-eq, true-and, eqb-true, leb-le, le-leb, same-refl}
 use Rattle.rules.proofs.MapLaws.{Up, rising-up, up-rising, Each, length-gather}
 use Rattle.rules.proofs.ByteLaws.{length-fill, byte-small, two-small, bytes-take, bytes-drop}
 use Rattle.rules.proofs.Families.{family-classes}
@@ -25,7 +25,8 @@ use Rattle.store.specs.Decode.{read-contents, read-entry, read-slots, read-plac
 use Rattle.store.proofs.Widths.{slots-are-enough, places-are-enough, slot-fits, place-fits}
 use Rattle.store.proofs.TablesBack.{slot-length, place-has-its-length}
 use Rattle.soundness.specs.Tests.{family-test, slots-test, key-in, place-test, places-test, table-test}
-use Rattle.soundness.proofs.Blocks.{same-append, same-front, same-zeros, four-front, fill-nothing, fill-front, fill-take}
+use Rattle.soundness.proofs.Conjunctions.{and-assoc, and-swap}
+use Rattle.soundness.proofs.Blocks.{same-front, same-zeros, four-front, fill-nothing, fill-front, fill-take}
 
 -- ---- keys that rise, from a bound on
 
@@ -81,9 +82,7 @@ module _ (cat : Catalogue) where
       let l : Bool = legal-each (read-entry fam (drop w b)) in
       let z : Bool = all-zero (drop (family-width fam) (drop w b)) in
       rw (f .0, ← drop-drop (family-width fam) w b, ← family-tested fam (drop w b) (f .1))
-      (bool-eq ((a and l) and z) (a and (l and z))
-      (λ p. let q = both p in let r = both (q .0) in and-true (r .0) (and-true (r .1) (q .1)))
-      (λ p. let q = both p in let r = both (q .1) in and-true (and-true (q .0) (r .0)) (r .1)))
+      (and-assoc a l z)
 
 module _ (cat : Catalogue) (wf : WellFormed cat) where
   -- a block of n bytes that holds an entry of class c
@@ -134,9 +133,7 @@ module _ (cat : Catalogue) (wf : WellFormed cat) where
           ← entry-tested k slot-width x lx (slot-fits cat f wf k (both st .0)),
           ← slots-tested l (drop slot-width b) (n - slot-width) (both st .1) ld (omega arith),
         )
-        (bool-eq ((a and v) and (s₁ and s₂)) ((a and s₁) and (v and s₂))
-        (λ p. let q = both p in let r = both (q .0) in let t = both (q .1) in and-true (and-true (r .0) (t .0)) (and-true (r .1) (t .1)))
-        (λ p. let q = both p in let r = both (q .0) in let t = both (q .1) in and-true (and-true (r .0) (t .0)) (and-true (r .1) (t .1))))
+        (and-swap a v s₁ s₂)
 
     -- ---- places
 

@@ -1,16 +1,18 @@
 -- Soundness as tests of bytes, in the order in which the code makes them.
-use Prim.Native.Nat.{ℕ, zero, suc, _+_, _*_}
-use mathlib.Core.Bool.{Bool, true, false}
-use mathlib.Core.List.{List, [], _∷_, _++_}
-use lib.ListN.{length, take, drop, getD}
-use lib.Dec.{eqb, ltb, leb}
-use Rattle.rules.specs.Maps.{_and_, Map}
-use Rattle.rules.specs.Bytes.{byte, two, all-zero}
+use Prim.Native.Nat.{ℕ, zero, suc, _+_}
+use mathlib.Core.Bool.{Bool, not, cond}
+use mathlib.Core.List.{List, [], _∷_}
+use lib.ListN.{take, drop}
+use lib.Dec.{eqb, leb}
+use Rattle.rules.specs.Maps.{_and_, Map, is-some, first-that-applies}
+use Rattle.rules.specs.Bytes.{byte, two, all-zero, bits}
 use Rattle.rules.specs.Catalogue.{Class, Catalogue, class, is-created, family, key}
 use Rattle.rules.specs.State.{class-of}
-use Rattle.rules.specs.Legal.{legal-contents, automatic-keys}
-use Rattle.store.specs.Layout.{slot-width, slots-length, place-width, place-length, contents-width}
-use Rattle.store.specs.Decode.{read-contents}
+use Rattle.rules.specs.Legal.{legal-contents, automatic-keys, declared-from, header-drops}
+use Rattle.store.specs.Layout.{slot-width, slots-length, place-length, contents-width}
+use Rattle.store.specs.Decode.{read-contents, part}
+
+-- ---- a table
 
 -- the contents of each class of a family, one after another, then zeros
 unfoldable pub family-test : Catalogue → Map Class → List ℕ → Bool
@@ -26,9 +28,13 @@ slots-test cat (k ∷ l) b = family-test cat (family cat (class-of k)) (take slo
 abbrev pub key-in : List ℕ → ℕ
 key-in r = key (two r 0) (two r 2)
 
+-- what follows the key of a place of class c
+abbrev pub entry-test : Catalogue → ℕ → List ℕ → Bool
+entry-test cat c b = is-created (class cat c .creation) and family-test cat (family cat c) b
+
 -- a place whose key is `low` or more
 unfoldable pub place-test : Catalogue → ℕ → List ℕ → Bool
-place-test cat low r = leb low (key-in r) and is-created (class cat (two r 0) .creation) and family-test cat (family cat (two r 0)) (drop 4 r)
+place-test cat low r = leb low (key-in r) and entry-test cat (two r 0) (drop 4 r)
 
 -- so many places, whose keys rise, then zeros
 unfoldable pub places-test : Catalogue → ℕ → ℕ → List ℕ → Bool
@@ -39,3 +45,34 @@ unfoldable pub table-test : Catalogue → List ℕ → Bool
 table-test cat b = leb (byte b 0) (cat .places)
     and slots-test cat (automatic-keys cat) (take slots-length (drop 1 b))
     and places-test cat (byte b 0) 0 (drop (1 + slots-length) b)
+
+-- ---- alarms
+
+-- a byte of alarms, in which only declared ones are on
+unfoldable pub alarm-byte-test : Class → ℕ → Bool
+alarm-byte-test k x = declared-from 0 (k .alarms) (bits 8 x)
+
+-- a byte for each of these keys, then zeros
+unfoldable pub alarms-test : Catalogue → List ℕ → List ℕ → Bool
+alarms-test cat [] b = all-zero b
+alarms-test cat (k ∷ l) b = alarm-byte-test (class cat (class-of k)) (byte b 0) and alarms-test cat l (drop 1 b)
+
+-- ---- the remembered command
+
+-- the command's header; the rest of it, and the reply, may be anything
+unfoldable pub memory-test : List ℕ → Bool
+memory-test b = not (is-some (first-that-applies (header-drops (take 40 b))))
+
+-- ---- the store
+
+-- what may be absent: 0 and zeros, or 1 and what passes
+unfoldable pub optional-test : (List ℕ → Bool) → List ℕ → Bool
+optional-test t b = cond (eqb (byte b 0) 0) (all-zero (drop 1 b)) (eqb (byte b 0) 1 and t (drop 1 b))
+
+-- product, alarm number and class 2 may be any byte: parts 0, 1 and 5
+unfoldable pub store-test : Catalogue → List ℕ → Bool
+store-test cat b = optional-test memory-test (part 2 b)
+    and alarms-test cat (automatic-keys cat) (part 3 b)
+    and optional-test (alarms-test cat (automatic-keys cat)) (part 4 b)
+    and table-test cat (part 6 b)
+    and optional-test (table-test cat) (part 7 b)

@@ -128,11 +128,11 @@ module _ (cat : Catalogue) (w : WellFormed cat) (f : fits cat ≡ true) where
 
   -- ---- the live table
 
-  abbrev table-of : Map Entry → Map Entry → Table
+  abbrev pub table-of : Map Entry → Map Entry → Table
   table-of a c = record { automatic = a; created = c }
 
   -- frozen, it has lost its first entry, class 2's
-  frozen-live : (e : ℕ × Entry) (m c : Map Entry) → e .0 ≡ key ont-data 0 → same (keys m) (automatic-keys cat) ≡ true → frozen (table-of (e ∷ m) c) ≡ table-of m c
+  pub frozen-live : (e : ℕ × Entry) (m c : Map Entry) → e .0 ≡ key ont-data 0 → same (keys m) (automatic-keys cat) ≡ true → frozen (table-of (e ∷ m) c) ≡ table-of m c
   unfolding frozen keep
   frozen-live e m c n s =
       let p : ℕ → Entry → Bool = λ k e. not (eqb (class-of k) ont-data) in
@@ -140,7 +140,7 @@ module _ (cat : Catalogue) (w : WellFormed cat) (f : fits cat ≡ true) where
       let q : every p m ≡ true = every-imp (λ k e. stands cat k) p (λ k e g. both (both g .1) .0) m (every-keys (stands cat) m ∙ t) in
       rw (n, keep-all p m q)
 
-  entry-live : (e : ℕ × Entry) (m c : Map Entry) → e .0 ≡ key ont-data 0 → entry (key ont-data 0) (table-of (e ∷ m) c) ≡ e .1
+  pub entry-live : (e : ℕ × Entry) (m c : Map Entry) → e .0 ≡ key ont-data 0 → entry (key ont-data 0) (table-of (e ∷ m) c) ≡ e .1
   unfolding entry find
   entry-live e m c n = rw (eqb-true (key ont-data 0) (e .0) (sym n))
 

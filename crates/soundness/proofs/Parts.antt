@@ -1,0 +1,132 @@
+-- The other parts of a store, byte by byte: alarms, the remembered command, what may be absent, and where each part lies.
+use Prim.Native.Nat.{ℕ, zero, suc, _+_, _*_, _/_, _%_, _≤_, _<_}
+use native.Mathlib.Omega.{arith}
+use mathlib.Core.Path.{_≡_, refl, sym, _∙_, ap}
+use mathlib.Core.Bool.{Bool, true, false, not, _&&_}
+use mathlib.Core.List.{List, [], _∷_}
+use lib.ListN.{length, take, drop, getD}
+use lib.Seq.{drop-drop, take-take, getD-take, getD-drop}
+use lib.Dec.{eqb}
+use Rattle.rules.specs.Maps.{_and_, is-some, first-that-applies, computing-maps}
+use Rattle.rules.specs.Bytes.{byte, two, are-bytes, all-zero, bits, computing-bytes}
+use Rattle.rules.specs.Masks.{total}
+use Rattle.rules.specs.Catalogue.{Catalogue, class}
+use Rattle.rules.specs.Legal.{automatic-keys, declared-from, header-drops, computing-legal}
+use Rattle.rules.specs.Run.{store-length}
+use Rattle.rules.proofs.Laws.{cases, same?, eqb-true, eqb-false}
+use Rattle.rules.proofs.ByteLaws.{byte-small}
+use Rattle.store.specs.Layout.{part-lengths}
+use Rattle.store.specs.Decode.{cut-parts}
+use Rattle.store.specs.Entries.{computing-store}
+use Rattle.rules.specs.Products.{cat-of}
+use Rattle.soundness.specs.Tests.{alarm-byte-test, alarms-test, memory-test, optional-test, store-test, table-test}
+use Rattle.soundness.proofs.Conjunctions.{and-end}
+use Rattle.soundness.proofs.Computed.{all-below, alike-below}
+use Rattle.soundness.proofs.Entries.{small-keys, large-keys, none-left}
+
+-- ---- alarms: of a UNI only alarm 0, at the top of the byte, is declared
+
+top-bit : (x : ℕ) → x < 256 → declared-from 0 (0 ∷ []) (bits 8 x) ≡ eqb (x % 128) 0
+top-bit x h = alike-below (λ x. declared-from 0 (0 ∷ []) (bits 8 x)) (λ x. eqb (x % 128) 0) 256 (unfold all-below computing-maps computing-bytes computing-legal in refl) x h
+
+uni-alarms : (large : Bool) → class (cat-of large) 11 .alarms ≡ 0 ∷ []
+unfolding cat-of computing-store
+uni-alarms true = refl
+uni-alarms false = refl
+
+module _ (b : List ℕ) (h : length b ≡ 4) (bs : are-bytes b ≡ true) where
+  alarm-byte : (large : Bool) (i : ℕ) → alarm-byte-test (class (cat-of large) 11) (byte b i) ≡ eqb (byte b i % 128) 0
+  unfolding alarm-byte-test
+  alarm-byte large i = rw (uni-alarms large) (top-bit (byte b i) (byte-small b i bs))
+
+  pub small-alarms : alarms-test (cat-of false) (automatic-keys (cat-of false)) b ≡ (eqb (byte b 0 % 128) 0 and all-zero (drop 1 b))
+  unfolding cat-of alarms-test
+  small-alarms = rw (small-keys, alarm-byte false 0)
+
+  pub large-alarms : alarms-test (cat-of true) (automatic-keys (cat-of true)) b
+      ≡ (eqb (byte b 0 % 128) 0 and (eqb (byte b 1 % 128) 0 and (eqb (byte b 2 % 128) 0 and eqb (byte b 3 % 128) 0)))
+  unfolding cat-of alarms-test
+  large-alarms = rw (
+    large-keys,
+    drop-drop 1 1 b,
+    drop-drop 1 2 b,
+    drop-drop 1 3 b,
+    getD-drop 1 b 0 0,
+    getD-drop 2 b 0 0,
+    getD-drop 3 b 0 0,
+    alarm-byte true 0,
+    alarm-byte true 1,
+    alarm-byte true 2,
+    alarm-byte true 3,
+    none-left 4 b h,
+    and-end (eqb (byte b 3 % 128) 0),
+  )
+
+-- ---- the remembered command
+
+-- an id is zero exactly if both its bytes are
+id-test : (x y : ℕ) → (eqb x 0 && eqb y 0) ≡ eqb (x * 256 + y) 0
+id-test x y = same? x 0
+    (λ e. same? y 0
+    (λ f. rw (eqb-true x 0 e, eqb-true y 0 f) (sym (eqb-true (x * 256 + y) 0 (omega arith))))
+    (λ f. rw (eqb-true x 0 e, eqb-false y 0 f) (sym (eqb-false (x * 256 + y) 0 (omega arith)))))
+    (λ e. rw (eqb-false x 0 e) (sym (eqb-false (x * 256 + y) 0 (omega arith))))
+
+-- none of three lines applies
+none-of-three : (p q r : Bool) → not (is-some (first-that-applies {A = ℕ} ((not p, 4) ∷ (not q, 5) ∷ (r, 6) ∷ []))) ≡ (p && (q && not r))
+unfolding first-that-applies
+none-of-three p q r = cases p (λ e. rw e (cases q (λ f. rw f (cases r (λ g. rw g) (λ g. rw g))) (λ f. rw f))) (λ e. rw e)
+
+pub memory-bytes : (b : List ℕ) → memory-test b ≡ (eqb (byte b 3) 0x0A && (eqb (byte b 2 / 32) 2 && not (eqb (byte b 0) 0 && eqb (byte b 1) 0)))
+unfolding memory-test header-drops
+memory-bytes b =
+    rw (
+      getD-take 40 b 3 0 (omega arith),
+      getD-take 40 b 2 0 (omega arith),
+      getD-take 40 b 0 0 (omega arith),
+      getD-take 40 b 1 0 (omega arith),
+      id-test (byte b 0) (byte b 1),
+    )
+    (none-of-three (eqb (byte b 3) 0x0A) (eqb (byte b 2 / 32) 2) (eqb (two b 0) 0))
+
+-- ---- what may be absent
+
+module _ (t : List ℕ → Bool) (b : List ℕ) where
+  pub absent : byte b 0 ≡ 0 → optional-test t b ≡ all-zero (drop 1 b)
+  unfolding optional-test
+  absent e = rw (eqb-true (byte b 0) 0 e)
+
+  pub present : (byte b 0 ≡ 0 → ⊥) → optional-test t b ≡ (eqb (byte b 0) 1 and t (drop 1 b))
+  unfolding optional-test
+  present n = rw (eqb-false (byte b 0) 0 n)
+
+-- ---- where the parts lie
+
+part-lies : (l b : List ℕ) (i : ℕ) → i < length l → getD (cut-parts l b) i [] ≡ take (getD l i 0) (drop (total (λ n. n) (take i l)) b)
+unfolding cut-parts total
+part-lies [] b i h = absurd (omega arith)
+part-lies (n ∷ l) b zero h = refl
+part-lies (n ∷ l) b (suc i) h = part-lies l (drop n b) i (omega arith) ∙ ap (λ (x : List ℕ). take (getD l i 0) x) (drop-drop (total (λ n. n) (take i l)) n b)
+
+front-of : (at n m : ℕ) (s : List ℕ) → at + n ≤ m → take n (drop at (take m s)) ≡ take n (drop at s)
+front-of zero n m s h = take-take n m s (omega arith)
+front-of (suc at) n zero s h = absurd (omega arith)
+front-of (suc at) n (suc m) [] h = refl
+front-of (suc at) n (suc m) (x ∷ s) h = front-of at n m s (omega arith)
+
+pub store-parts : (cat : Catalogue) (s : List ℕ) → store-test cat (take store-length s)
+    ≡ (optional-test memory-test (take 89 (drop 2 s))
+    and (alarms-test cat (automatic-keys cat) (take 4 (drop 91 s))
+    and (optional-test (alarms-test cat (automatic-keys cat)) (take 5 (drop 95 s))
+    and (table-test cat (take 1621 (drop 101 s))
+    and optional-test (table-test cat) (take 1622 (drop 1722 s))))))
+unfolding store-test total
+store-parts cat s =
+    let b : List ℕ = take store-length s in
+    rw (
+      part-lies part-lengths b 2 (omega arith) ∙ front-of 2 89 store-length s (omega arith),
+      part-lies part-lengths b 3 (omega arith) ∙ front-of 91 4 store-length s (omega arith),
+      part-lies part-lengths b 4 (omega arith) ∙ front-of 95 5 store-length s (omega arith),
+      part-lies part-lengths b 6 (omega arith) ∙ front-of 101 1621 store-length s (omega arith),
+      part-lies part-lengths b 7 (omega arith) ∙ front-of 1722 1622 store-length s (omega arith),
+    )
