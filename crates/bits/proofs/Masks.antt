@@ -179,7 +179,7 @@ among-those p n (x ∷ l) = same? n x
     (λ t. let u : p n ≡ false = rw e t in rw (t, among-those p n l, u)))
     (λ e. cases (p x) (λ t. rw (t, eqb-false n x e) (among-those p n l)) (λ t. rw (t, eqb-false n x e) (among-those p n l)))
 
-numbers-among : (n : ℕ) → 1 ≤ n → n ≤ 16 → among n attribute-numbers ≡ true
+pub numbers-among : (n : ℕ) → 1 ≤ n → n ≤ 16 → among n attribute-numbers ≡ true
 numbers-among n h i = or-cases (below (λ k. eqb k 0 or among k attribute-numbers) 17 (unfold each-below among _or_ _and_ in refl) n (omega arith))
     (λ e. absurd (let z = eqb-eq n 0 e in omega arith))
     (λ e. e)
@@ -194,12 +194,12 @@ in-mask-of l w n h i =
 
 -- ---- bits in common
 
-those-those : (p q : ℕ → Bool) (l : List ℕ) → those p (those q l) ≡ those (λ n. q n && p n) l
+pub those-those : (p q : ℕ → Bool) (l : List ℕ) → those p (those q l) ≡ those (λ n. q n && p n) l
 unfolding those
 those-those p q [] = refl
 those-those p q (n ∷ l) = cases (q n) (λ e. rw (e, those-those p q l)) (λ e. rw (e, those-those p q l))
 
-those-same : (p q : ℕ → Bool) (b : ℕ) (l : List ℕ) → Within b l → ((n : ℕ) → b ≤ n → n ≤ 16 → p n ≡ q n) → those p l ≡ those q l
+pub those-same : (p q : ℕ → Bool) (b : ℕ) (l : List ℕ) → Within b l → ((n : ℕ) → b ≤ n → n ≤ 16 → p n ≡ q n) → those p l ≡ those q l
 unfolding those
 those-same p q b [] w h = refl
 those-same p q b (n ∷ l) w h =

@@ -11,10 +11,10 @@ ghost use Rattle.table.specs.Spots.{position, rank, place-at, inserted, 
 ghost use Rattle.table.specs.Places.{InShape, keys-in, how-many-hold, found-of, chosen};
 
 // Where the places begin in a block.
-const PLACES: usize = 62;
+pub const PLACES: usize = 62;
 
 // The length of a place: class, number, contents.
-const PLACE: usize = 39;
+pub const PLACE: usize = 39;
 
 pub enum Found {
     At(usize),
