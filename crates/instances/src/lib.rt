@@ -11,6 +11,7 @@ ghost use Rattle.store.specs.Layout.{place-width};
 ghost use Rattle.catalogue.specs.CatOf.{cat-of};
 ghost use Rattle.rules.specs.Legal.{automatic-keys};
 ghost use Rattle.table.specs.Spots.{at-position, slot-at, place-at, spot-among};
+ghost use Rattle.instances.specs.Live.{Held};
 ghost use Rattle.table.specs.Places.{InShape, keys-in, found-of};
 
 // Where the slots begin in a block, and the length of one.
@@ -64,4 +65,16 @@ pub fn locate(b: &[u8], large: bool, class: u16, number: u16) -> Found
         return Found::At(0);
     }
     in_slot(large, class, number)
+}
+
+// Is the instance there?
+pub fn is_there(b: &[u8], large: bool, class: u16, number: u16) -> bool
+    requires { ⌜ InShape (now b) ⌝ }
+    ensures { λ r. ⌜ Held (cat-of large) (now (b .entry)) class number r ⌝ }
+{
+    let found = locate(b, large, class, number);
+    match found {
+        Found::At(_) => true,
+        Found::Nothing => false,
+    }
 }

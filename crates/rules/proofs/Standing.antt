@@ -144,6 +144,9 @@ module _ (cat : Catalogue) (wf : WellFormed cat) where
   pub stands-leads : (k : ℕ) → stands cat k ≡ true → leader cat (class-of k) ≡ class-of k
   stands-leads k h = numbers-lead (class cat (class-of k) .creation) (class-of k) (number-of k) (both (both h .1) .1)
 
+  pub standing-leads : (k : ℕ) → among k standing ≡ true → leader cat (class-of k) ≡ class-of k
+  standing-leads k h = numbers-lead (class cat (class-of k) .creation) (class-of k) (number-of k) (stands-by-itself k h .in-list)
+
   -- they rise
   pub automatic-rise : Up 0 (automatic-keys cat)
   unfolding automatic-keys
