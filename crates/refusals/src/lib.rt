@@ -1,0 +1,40 @@
+// Whether a command is refused, and with what: nothing is changed here.
+ghost use Rattle.table.specs.Places.{InShape};
+ghost use Rattle.catalogue.specs.CatOf.{cat-of};
+ghost use Rattle.refusals.specs.Refused.{GetRefused};
+
+const BAD_PARAMETER: u8 = 3;
+
+const UNKNOWN_INSTANCE: u8 = 5;
+
+// The most bytes that the reply to a Get has room for.
+const GET_ROOM: usize = 25;
+
+pub enum GetRefusal {
+    Accepted,
+    // a result alone
+    Result(u8),
+    // attributes that the class doesn't have
+    Unsupported(u16),
+}
+
+// The first of the results of a Get that applies.
+pub fn get_refusal(b: &[u8], large: bool, class: u16, number: u16, asked: u16) -> GetRefusal
+    requires { ⌜ InShape (now b) ⌝ }
+    ensures { λ r. ⌜ GetRefused (cat-of large) (now (b .entry)) class number asked r ⌝ }
+{
+    if !instances::is_there(b, large, class, number) {
+        return GetRefusal::Result(UNKNOWN_INSTANCE);
+    }
+    if asked == 0 {
+        return GetRefusal::Result(BAD_PARAMETER);
+    }
+    let missing = asked::unsupported(large, class, asked);
+    if missing != 0 {
+        return GetRefusal::Unsupported(missing);
+    }
+    if asked::total_size(large, class, asked) > GET_ROOM {
+        return GetRefusal::Result(BAD_PARAMETER);
+    }
+    GetRefusal::Accepted
+}
