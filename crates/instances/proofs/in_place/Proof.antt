@@ -24,33 +24,7 @@ place-of-requires c κs = search needs
 enum-known-found : tie.Need-enum-known-found
 enum-known-found c = search needs
 
--- src/lib.rt:31:40
-mul-t9 : tie.Need-mul-t9
-mul-t9 c =
-    let a = c .before .before .before .before .before .before .args in
-    let pre = c .before .before .before .before .before .before .pre in
-    let few = place-small (a .b .now) (pre .0) _ (ap found-of (c .before .found .given .1)) (c .before .before .before .place-of .ensures) in
-    let near = pre .1 in
-    omega arith
-
--- src/lib.rt:31:35
-add-t10 : tie.Need-add-t10
-add-t10 c =
-    let a = c .before .before .before .before .before .before .args in
-    let pre = c .before .before .before .before .before .before .pre in
-    let few = place-small (a .b .now) (pre .0) _ (ap found-of (c .before .found .given .1)) (c .before .before .before .place-of .ensures) in
-    let near = pre .1 in
-    omega arith
-
--- src/lib.rt:31:35
-add-t11 : tie.Need-add-t11
-add-t11 c =
-    let a = c .before .before .before .before .before .before .args in
-    let pre = c .before .before .before .before .before .before .pre in
-    let few = place-small (a .b .now) (pre .0) _ (ap found-of (c .before .found .given .1)) (c .before .before .before .place-of .ensures) in
-    let near = pre .1 in
-    omega arith
-
+-- the last sum is the largest
 -- src/lib.rt:31:35
 add-t12 : tie.Need-add-t12
 add-t12 c =
@@ -59,6 +33,18 @@ add-t12 c =
     let few = place-small (a .b .now) (pre .0) _ (ap found-of (c .before .found .given .1)) (c .before .before .before .place-of .ensures) in
     let near = pre .1 in
     omega arith
+
+-- src/lib.rt:31:40
+mul-t9 : tie.Need-mul-t9
+mul-t9 c = let all = add-t12 c in omega arith
+
+-- src/lib.rt:31:35
+add-t10 : tie.Need-add-t10
+add-t10 c = let all = add-t12 c in omega arith
+
+-- src/lib.rt:31:35
+add-t11 : tie.Need-add-t11
+add-t11 c = let all = add-t12 c in omega arith
 
 -- src/lib.rt:32:27
 enum-told : tie.Need-enum-told

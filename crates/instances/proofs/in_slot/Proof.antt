@@ -18,19 +18,16 @@ slot-of-requires c κs = search needs
 enum-known-slot : tie.Need-enum-known-slot
 enum-known-slot c = search needs
 
--- src/lib.rt:42:38
-mul-t7 : tie.Need-mul-t7
-mul-t7 c =
-    let a = c .before .before .before .before .args in
-    let z = slot-small (a .large) _ (ap slot-place (c .before .slot .given .1)) (c .before .before .before .slot-of .ensures) in
-    omega arith
-
 -- src/lib.rt:42:34
 add-t8 : tie.Need-add-t8
 add-t8 c =
     let a = c .before .before .before .before .args in
     let z = slot-small (a .large) _ (ap slot-place (c .before .slot .given .1)) (c .before .before .before .slot-of .ensures) in
     omega arith
+
+-- src/lib.rt:42:38
+mul-t7 : tie.Need-mul-t7
+mul-t7 c = let all = add-t8 c in omega arith
 
 -- src/lib.rt:43:26
 enum-told : tie.Need-enum-told
