@@ -1,4 +1,5 @@
-// Everything that the engine knows of a class, as tables: the two catalogues as code. No other crate has a branch for a class.
+// What the engine knows of a class, as tables: the two catalogues as code. Beside it only `soundness` has a branch for a class:
+// the straight-line tests of a whole store's contents.
 pub mod attributes;
 pub mod classes;
 pub mod judge;

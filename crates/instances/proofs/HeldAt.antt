@@ -24,7 +24,7 @@ use Rattle.table.proofs.Positions.{position-among}
 use Rattle.table.proofs.PlaceKeys.{live-keys}
 use Rattle.catalogue.specs.CatOf.{cat-of}
 use Rattle.catalogue.proofs.ProductLaws.{well-formed-of, fits-of}
-use Rattle.instances.specs.Live.{Held}
+use Rattle.instances.specs.Live.{there-in, Holding}
 
 moved-is-some : (f : ℕ → ℕ) (p : Option ℕ) → is-some (at-position f p) ≡ is-some p
 moved-is-some f none = refl
@@ -112,14 +112,11 @@ module _ (cat : Catalogue) (wf : WellFormed cat) (t : Table) (h : LegalLive cat 
   pub held-at : holds cat t c i ≡ is-some (spot cat t c i)
   held-at = cases (is-created (class cat (leader cat c) .creation)) held-if-made held-if-standing
 
--- what was found in the bytes of a live table of a product
-pub held : (l : Bool) (b : List ℕ) (c i : ℕ) (r : Bool) (found : Option ℕ) → i < 65536 → found ≡ spot-among (cat-of l) (keys-in b) c i → r ≡ is-some found
-    → Held (cat-of l) b c i r
-held l b c i r found lt e g = record {
-  in-its-table = λ t q.
-      let cat : Catalogue = cat-of l in
-      let wf : WellFormed cat = well-formed-of l in
-      let h : LegalLive cat wf t = open-table cat wf (standing cat wf) t (q .legal) in
-      let made : keys-in b ≡ keys (t .created) = rw (q .is) (live-keys cat wf (fits-of l) t h) in
-      g ∙ ap is-some e ∙ ap (λ (m : List ℕ). is-some (spot-among cat m c i)) made ∙ sym (held-at cat wf t h c i lt);
-}
+-- in the bytes of a live table of a product, what has a place is what the rules' table has
+pub there-is-held : (l : Bool) (b : List ℕ) (t : Table) → Holding (cat-of l) b t → (c i : ℕ) → i < 65536 → there-in (cat-of l) b c i ≡ holds (cat-of l) t c i
+there-is-held l b t q c i lt =
+    let cat : Catalogue = cat-of l in
+    let wf : WellFormed cat = well-formed-of l in
+    let h : LegalLive cat wf t = open-table cat wf (standing cat wf) t (q .legal) in
+    let made : keys-in b ≡ keys (t .created) = rw (q .is) (live-keys cat wf (fits-of l) t h) in
+    ap (λ (m : List ℕ). is-some (spot-among cat m c i)) made ∙ sym (held-at cat wf t h c i lt)

@@ -11,7 +11,7 @@ ghost use Rattle.store.specs.Layout.{place-width};
 ghost use Rattle.catalogue.specs.CatOf.{cat-of};
 ghost use Rattle.rules.specs.Legal.{automatic-keys};
 ghost use Rattle.table.specs.Spots.{at-position, slot-at, place-at, spot-among};
-ghost use Rattle.instances.specs.Live.{Held};
+ghost use Rattle.instances.specs.Live.{there-in};
 ghost use Rattle.table.specs.Places.{InShape, keys-in, found-of};
 
 // Where the slots begin in a block, and the length of one.
@@ -70,7 +70,7 @@ pub fn locate(b: &[u8], large: bool, class: u16, number: u16) -> Found
 // Is the instance there?
 pub fn is_there(b: &[u8], large: bool, class: u16, number: u16) -> bool
     requires { ⌜ InShape (now b) ⌝ }
-    ensures { λ r. ⌜ Held (cat-of large) (now (b .entry)) class number r ⌝ }
+    ensures { λ r. ⌜ r ≡ there-in (cat-of large) (now (b .entry)) class number ⌝ }
 {
     let found = locate(b, large, class, number);
     match found {

@@ -131,8 +131,8 @@ module _ (cat : Catalogue) (wf : WellFormed cat) (s : State) (h : LegalState cat
 
   pub get-good : (c i : ℕ) (v : List ℕ) → Good cat wf (get cat s c i v)
   unfolding get get-results
-  get-good c i v = unless-refused-is (Good cat wf) s (get-results cat s c i v) (s, 0 ∷ bytes 2 (two v 0) ++ values cat (s .table) c i (asked v))
-      (λ r f. stays-good r (first-has (λ r. are-bytes r ≡ true) (get-results cat s c i v) (
+  get-good c i v = unless-refused-is (Good cat wf) s (get-results (holds cat (s .table) c i) (class cat c) (two v 0)) (s, 0 ∷ bytes 2 (two v 0) ++ values cat (s .table) c i (asked v))
+      (λ r f. stays-good r (first-has (λ r. are-bytes r ≡ true) (get-results (holds cat (s .table) c i) (class cat c) (two v 0)) (
         (λ y. small-result 5 (omega arith)),
         (
           (λ y. small-result 3 (omega arith)),

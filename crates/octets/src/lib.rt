@@ -4,8 +4,7 @@ ghost use mathlib.Core.List.{_++_};
 ghost use Prim.Native.Nat.{_+_, _-_, _/_, _%_, _<_, _≤_};
 ghost use lib.ListN.{length, take, drop, replicate};
 ghost use Rattle.rules.specs.Maps.{same};
-ghost use Rattle.rules.specs.Bytes.{two, bytes};
-ghost use Rattle.rules.specs.Bytes.{laid, all-zero};
+ghost use Rattle.rules.specs.Bytes.{two, bytes, laid, all-zero};
 
 // A byte as a wider number.
 pub fn wide(x: u8) -> u16

@@ -1,7 +1,11 @@
 // Whether a command is refused, and with what: nothing is changed here.
 ghost use Rattle.table.specs.Places.{InShape};
-ghost use Rattle.catalogue.specs.CatOf.{cat-of};
-ghost use Rattle.refusals.specs.Refused.{GetRefused};
+ghost use Rattle.catalogue.specs.CatOf.{cat-of, class-for};
+ghost use mathlib.Core.Path.{_≡_};
+ghost use Rattle.rules.specs.Maps.{first-that-applies};
+ghost use Rattle.rules.specs.Commands.{get-results};
+ghost use Rattle.instances.specs.Live.{there-in};
+ghost use Rattle.refusals.specs.Refused.{get-contents};
 
 const BAD_PARAMETER: u8 = 3;
 
@@ -21,7 +25,7 @@ pub enum GetRefusal {
 // The first of the results of a Get that applies.
 pub fn get_refusal(b: &[u8], large: bool, class: u16, number: u16, asked: u16) -> GetRefusal
     requires { ⌜ InShape (now b) ⌝ }
-    ensures { λ r. ⌜ GetRefused (cat-of large) (now (b .entry)) class number asked r ⌝ }
+    ensures { λ r. ⌜ get-contents r ≡ first-that-applies (get-results (there-in (cat-of large) (now (b .entry)) class number) (class-for large class) asked) ⌝ }
 {
     if !instances::is_there(b, large, class, number) {
         return GetRefusal::Result(UNKNOWN_INSTANCE);

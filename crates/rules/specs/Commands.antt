@@ -146,18 +146,18 @@ unfoldable pub values : Catalogue → Table → ℕ → ℕ → List ℕ → Lis
 values cat t c i [] = []
 values cat t c i (n ∷ l) = read cat t c i n ++ values cat t c i l
 
-unfoldable pub get-results : Catalogue → State → ℕ → ℕ → List ℕ → List (Bool × List ℕ)
-get-results cat s c i v =
-    let k : Class = class cat c in
-    (not (holds cat (s .table) c i), unknown-instance ∷ [])
-    ∷ (eqb (two v 0) 0, bad-parameter ∷ [])
-    ∷ (not (empty (unsupported k (asked v))), attribute-failed ∷ replicate 27 0 ++ bytes 2 (mask (unsupported k (asked v))))
-    ∷ (ltb 25 (total (size-of k) (asked v)), bad-parameter ∷ [])
+-- the results of a Get with mask m of an instance of class k, which is there or not
+unfoldable pub get-results : Bool → Class → ℕ → List (Bool × List ℕ)
+get-results there k m =
+    (not there, unknown-instance ∷ [])
+    ∷ (eqb m 0, bad-parameter ∷ [])
+    ∷ (not (empty (unsupported k (named m))), attribute-failed ∷ replicate 27 0 ++ bytes 2 (mask (unsupported k (named m))))
+    ∷ (ltb 25 (total (size-of k) (named m)), bad-parameter ∷ [])
     ∷ []
 
 unfoldable pub get : Catalogue → State → ℕ → ℕ → List ℕ → Answer
 get cat s c i v =
-    unless-refused s (get-results cat s c i v) (s, done ∷ bytes 2 (two v 0) ++ values cat (s .table) c i (asked v))
+    unless-refused s (get-results (holds cat (s .table) c i) (class cat c) (two v 0)) (s, done ∷ bytes 2 (two v 0) ++ values cat (s .table) c i (asked v))
 
 -- ---- MIB reset
 

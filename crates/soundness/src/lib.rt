@@ -6,9 +6,8 @@ ghost use lib.Dec.{leb};
 ghost use lib.ListN.{length, take};
 ghost use Rattle.rules.specs.Legal.{automatic-keys};
 ghost use Rattle.rules.specs.Run.{store-length};
-ghost use Rattle.rules.specs.Products.{built-products};
+ghost use Rattle.rules.specs.Products.{built-products, cat-of};
 ghost use Rattle.store.specs.Decode.{sound};
-ghost use Rattle.rules.specs.Products.{cat-of};
 ghost use Rattle.soundness.specs.ClassTests.{uni-test, profile-test, is-uni, pointer-test, port-test};
 ghost use Rattle.soundness.specs.Tests.{slots-test, key-in, entry-test, place-test, places-test, table-test, alarms-test, memory-test, optional-test, store-test};
 

@@ -67,8 +67,8 @@ part n b = getD (cut-parts part-lengths b) n []
 
 -- the table of part 6, with class 2 of part 5 in front
 unfoldable pub read-live : Catalogue → List ℕ → List ℕ → Table
-read-live cat two-s b = record {
-  automatic = (key ont-data 0, read-entry (family cat ont-data) two-s) ∷ read-table cat b .automatic;
+read-live cat of-class-2 b = record {
+  automatic = (key ont-data 0, read-entry (family cat ont-data) of-class-2) ∷ read-table cat b .automatic;
   created = read-table cat b .created;
 }
 

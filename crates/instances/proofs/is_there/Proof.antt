@@ -1,8 +1,7 @@
-use mathlib.Core.Path.{sym, ap}
+use mathlib.Core.Path.{sym, _∙_, ap}
 use borrow.Author.Needs.{needs}
 use Rattle.rules.specs.Maps.{is-some}
 use Rattle.table.specs.Places.{found-of}
-use Rattle.instances.proofs.HeldAt.{held}
 use Rattle.instances.proofs.is_there.Statement.{statement}
 use Rattle.instances.proofs.is_there.Tie as tie
 use Rattle.instances.proofs.is_there.Reads as reads
@@ -23,17 +22,11 @@ enum-told-2 c = search needs
 
 -- src/lib.rt:72:1
 returns : tie.Need-returns
-returns c =
-    let a = c .before .before .before .before .args in
-    held (a .large) (a .b .now) (a .class) (a .number) _ _ (search needs) (c .before .before .locate .ensures)
-    (sym (ap (λ f. is-some (found-of f)) (c .enum-told .given .1)))
+returns c = sym (ap (λ f. is-some (found-of f)) (c .enum-told .given .1)) ∙ ap is-some (c .before .before .locate .ensures)
 
 -- src/lib.rt:72:1
 returns-2 : tie.Need-returns-2
-returns-2 c =
-    let a = c .before .before .before .before .args in
-    held (a .large) (a .b .now) (a .class) (a .number) _ _ (search needs) (c .before .before .locate .ensures)
-    (sym (ap (λ f. is-some (found-of f)) (c .enum-told2 .given .1)))
+returns-2 c = sym (ap (λ f. is-some (found-of f)) (c .enum-told2 .given .1)) ∙ ap is-some (c .before .before .locate .ensures)
 
 pub is-there-spec : {M : Type 1} → statement M
 is-there-spec = tie.close (tie.spec locate-requires enum-told enum-told-2 returns returns-2)

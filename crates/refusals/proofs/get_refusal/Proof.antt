@@ -14,11 +14,11 @@ is-there-requires c κs = search needs
 
 -- src/lib.rt:19:9
 returns : tie.Need-returns
-returns c = refused-absent _ _ _ _ _ (c .before .is-there .ensures) (c .if1 .taken)
+returns c = refused-absent (c .before .is-there .ensures) _ _ (c .if1 .taken)
 
 -- src/lib.rt:22:9
 returns-2 : tie.Need-returns-2
-returns-2 c = refused-empty _ _ _ _ _ (c .before .before .is-there .ensures) (c .before .if1 .left) (c .if2 .taken)
+returns-2 c = refused-empty (c .before .before .is-there .ensures) _ _ (c .before .if1 .left) (c .if2 .taken)
 
 -- src/lib.rt:24:9
 unsupported-requires : tie.Need-unsupported-requires
@@ -27,7 +27,7 @@ unsupported-requires c κs = search needs
 -- src/lib.rt:26:9
 returns-3 : tie.Need-returns-3
 returns-3 c =
-    refused-missing _ _ _ _ _ (c .before .before .before .before .is-there .ensures) (c .before .before .before .if1 .left) (c .before .before .if2 .left) (search needs) (c .before .unsupported .ensures) (c .if3 .taken)
+    refused-missing (c .before .before .before .before .is-there .ensures) _ _ (c .before .before .before .if1 .left) (c .before .before .if2 .left) (search needs) (c .before .unsupported .ensures) (c .if3 .taken)
 
 -- src/lib.rt:28:8
 total-size-requires : tie.Need-total-size-requires
@@ -36,13 +36,13 @@ total-size-requires c κs = search needs
 -- src/lib.rt:29:9
 returns-4 : tie.Need-returns-4
 returns-4 c =
-    refused-long _ _ _ _ _ (c .before .before .before .before .before .before .is-there .ensures) (c .before .before .before .before .before .if1 .left) (c .before .before .before .before .if2 .left) (search needs) (c .before .before .before .unsupported .ensures) (c .before .before .if3 .left)
+    refused-long (c .before .before .before .before .before .before .is-there .ensures) _ _ (c .before .before .before .before .before .if1 .left) (c .before .before .before .before .if2 .left) (search needs) (c .before .before .before .unsupported .ensures) (c .before .before .if3 .left)
     (c .before .total-size .ensures) (c .if4 .taken)
 
 -- src/lib.rt:14:1
 returns-5 : tie.Need-returns-5
 returns-5 c =
-    accepted _ _ _ _ _ (c .before .before .before .before .before .before .is-there .ensures) (c .before .before .before .before .before .if1 .left) (c .before .before .before .before .if2 .left) (search needs) (c .before .before .before .unsupported .ensures) (c .before .before .if3 .left)
+    accepted (c .before .before .before .before .before .before .is-there .ensures) _ _ (c .before .before .before .before .before .if1 .left) (c .before .before .before .before .if2 .left) (search needs) (c .before .before .before .unsupported .ensures) (c .before .before .if3 .left)
     (c .before .total-size .ensures) (c .if4 .left)
 
 pub get-refusal-spec : {M : Type 1} → statement M
