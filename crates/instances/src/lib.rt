@@ -22,19 +22,12 @@ const SLOT: usize = 15;
 // Class and number stand before the contents of a place.
 const KEY: usize = 4;
 
-// An instance's key as one number.
-pub fn key_of(class: u16, number: u16) -> u32
-    ensures { λ r. ⌜ r ≡ key class number ⌝ }
-{
-    (class as u32) * 65536 + (number as u32)
-}
-
 // The contents of a class in the place of a created instance.
 fn in_place(b: &[u8], leader: u16, number: u16, inside: usize) -> Found
     requires { ⌜ InShape (now b) × (inside ≤ place-width) ⌝ }
     ensures { λ r. ⌜ found-of r ≡ at-position (λ j. place-at j + 4 + inside) (position (key leader number) (keys-in (now (b .entry)))) ⌝ }
 {
-    let found = table::place_of(b, key_of(leader, number));
+    let found = table::place_of(b, octets::key_of(leader, number));
     match found {
         Found::At(j) => Found::At(table::PLACES + table::PLACE * j + KEY + inside),
         Found::Nothing => Found::Nothing,

@@ -1,9 +1,10 @@
-// Bytes in slices that the caller lends: numbers of two bytes, copies, tests, and moves to make or close a gap.
+// Bytes in slices that the caller lends: numbers of two bytes, keys, copies, tests, and moves to make or close a gap.
 ghost use mathlib.Core.Path.{_≡_};
 ghost use mathlib.Core.List.{_++_};
 ghost use Prim.Native.Nat.{_+_, _-_, _/_, _%_, _<_, _≤_};
 ghost use lib.ListN.{length, take, drop, replicate};
 ghost use Rattle.rules.specs.Maps.{same};
+ghost use Rattle.rules.specs.Catalogue.{key};
 ghost use Rattle.rules.specs.Bytes.{two, bytes, laid, all-zero};
 
 // A byte as a wider number.
@@ -19,6 +20,28 @@ pub fn number_at(s: &[u8], i: usize) -> u16
     ensures { λ r. ⌜ r ≡ two (now (s .entry)) i ⌝ }
 {
     wide(s[i]) * 256 + wide(s[i + 1])
+}
+
+// A number of two bytes as a wider one.
+fn wider(x: u16) -> u32
+    ensures { λ r. ⌜ (r ≡ x) × (r < 65536) ⌝ }
+{
+    x as u32
+}
+
+// An instance's key as one number: class, then number.
+pub fn key_of(class: u16, number: u16) -> u32
+    ensures { λ r. ⌜ r ≡ key class number ⌝ }
+{
+    wider(class) * 65536 + wider(number)
+}
+
+// The key in four bytes.
+pub fn key_at(s: &[u8], i: usize) -> u32
+    requires { ⌜ i + 3 < length (now s) ⌝ }
+    ensures { λ r. ⌜ r ≡ key (two (now (s .entry)) i) (two (now (s .entry)) (i + 2)) ⌝ }
+{
+    key_of(number_at(s, i), number_at(s, i + 2))
 }
 
 // The high byte of a number.

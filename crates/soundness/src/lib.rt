@@ -116,19 +116,12 @@ fn entry_ok(large: bool, class: u16, c: &[u8]) -> bool
     }
 }
 
-// A number of two bytes as a wider one.
-fn wide(x: u16) -> u64
-    ensures { λ r. ⌜ (r ≡ x) × (r < 65536) ⌝ }
-{
-    x as u64
-}
-
-// The key that a place begins with: class, then number.
+// The key that a place begins with, as a number that can still grow by one.
 fn key_of(r: &[u8]) -> u64
     requires { ⌜ 4 ≤ length (now r) ⌝ }
     ensures { λ k. ⌜ (k ≡ key-in (now (r .entry))) × (k < 4294967296) ⌝ }
 {
-    wide(octets::number_at(r, 0)) * 65536 + wide(octets::number_at(r, 2))
+    octets::key_at(r, 0) as u64
 }
 
 // A place whose key is `low` or more.

@@ -4,8 +4,7 @@ ghost use mathlib.Core.Path.{_≡_};
 ghost use mathlib.Core.List.{[], _∷_};
 ghost use Prim.Native.Nat.{suc, _+_, _-_, _<_, _≤_};
 ghost use lib.ListN.{length, take, drop};
-ghost use Rattle.rules.specs.Bytes.{byte, two, laid};
-ghost use Rattle.rules.specs.Catalogue.{key};
+ghost use Rattle.rules.specs.Bytes.{byte, laid};
 ghost use Rattle.store.specs.Layout.{slots-length, place-count, place-width, place-length};
 ghost use Rattle.table.specs.Spots.{position, rank, place-at, inserted, removed};
 ghost use Rattle.table.specs.Places.{InShape, keys-in, how-many-hold, found-of, chosen};
@@ -27,27 +26,12 @@ pub enum Which {
     Frozen,
 }
 
-// A number of two bytes as a wider one.
-fn wider(x: u16) -> u32
-    ensures { λ r. ⌜ (r ≡ x) × (r < 65536) ⌝ }
-{
-    x as u32
-}
-
 // How many places of a block are in use.
 pub fn in_use(b: &[u8]) -> usize
     requires { ⌜ 1 < length (now b) ⌝ }
     ensures { λ r. ⌜ r ≡ byte (now (b .entry)) 1 ⌝ }
 {
     octets::wide(b[1]) as usize
-}
-
-// Class and number of a place, as one number.
-pub fn key_at(b: &[u8], at: usize) -> u32
-    requires { ⌜ at + 3 < length (now b) ⌝ }
-    ensures { λ r. ⌜ r ≡ key (two (now (b .entry)) at) (two (now (b .entry)) (at + 2)) ⌝ }
-{
-    wider(octets::number_at(b, at)) * 65536 + wider(octets::number_at(b, at + 2))
 }
 
 // Which place has a key, if one has.
@@ -58,7 +42,7 @@ pub fn place_of(b: &[u8], key: u32) -> Found
     let n = in_use(b);
     let mut i = 0;
     while i < n {
-        if key == key_at(b, PLACES + PLACE * i) {
+        if key == octets::key_at(b, PLACES + PLACE * i) {
             return Found::At(i);
         }
         i += 1;
@@ -74,7 +58,7 @@ pub fn rank_of(b: &[u8], key: u32) -> usize
     let n = in_use(b);
     let mut i = 0;
     while i < n {
-        if key < key_at(b, PLACES + PLACE * i) {
+        if key < octets::key_at(b, PLACES + PLACE * i) {
             return i;
         }
         i += 1;

@@ -9,7 +9,7 @@ use Rattle.instances.proofs.in_place.Statement.{statement}
 use Rattle.instances.proofs.in_place.Tie as tie
 use Rattle.instances.proofs.in_place.Reads as reads
 use Rattle.instances.proofs.in_place.Lts as lts
-use Rattle.instances.proofs.key_of.Reads as key-of-reads
+use Rattle.octets.proofs.key_of.Reads as key-of-reads
 use Rattle.table.proofs.place_of.Reads as place-of-reads
 
 -- src/lib.rt:29:36
