@@ -6,7 +6,7 @@ ghost use Prim.Native.Nat.{_-_, _^_, _<_, _≤_};
 ghost use lib.ListN.{length, getD, set};
 ghost use lib.Bits.{bitAnd};
 ghost use Rattle.rules.specs.Bytes.{bits, bits-from};
-ghost use Rattle.rules.specs.Masks.{in-mask, named};
+ghost use Rattle.rules.specs.Masks.{named};
 ghost use Rattle.rules.specs.Messages.{next-number};
 ghost use Rattle.bits.specs.Firsts.{First};
 
@@ -16,14 +16,6 @@ pub fn next_number(x: u8) -> u8
 {
     let y = std::num::wrapping_add_u8(x, 1);
     if y == 0 { 1 } else { y }
-}
-
-// Does a mask name attribute n? Attribute 1 is the top bit.
-pub fn names(mask: u16, n: u16) -> bool
-    requires { ⌜ (1 ≤ n) × (n ≤ 16) ⌝ }
-    ensures { λ r. ⌜ r ≡ in-mask mask n ⌝ }
-{
-    (mask >> (16 - n)) & 1 == 1
 }
 
 // The mask of attribute n alone.
