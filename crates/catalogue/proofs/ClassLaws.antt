@@ -1,8 +1,10 @@
 -- The classes of the two products, each looked at by itself; and what holds of every number that is no class's.
-use Prim.Native.Nat.{ℕ}
+use Prim.Native.Nat.{ℕ, _≤_}
+use native.Mathlib.Omega.{arith}
 use mathlib.Core.Path.{_≡_, refl, sym, _∙_, ap}
 use mathlib.Core.Bool.{Bool, true, false, not}
 use mathlib.Core.List.{List, [], _∷_}
+use lib.ListN.{getD, List·getD-eq-default}
 use lib.Dec.{eqb}
 use Rattle.rules.specs.Maps.{_or_, keys, among, all, same, empty}
 use Rattle.rules.specs.Catalogue.{Class, Catalogue, class, known, no-class, leader, family}
@@ -41,6 +43,25 @@ class-45 false = refl
 
 abbrev pub class-numbers : List ℕ
 class-numbers = 2 ∷ 11 ∷ 45 ∷ 46 ∷ 47 ∷ []
+
+pub classes-are : (l : Bool) → keys (cat-of l .classes) ≡ class-numbers
+unfolding computing-tables
+classes-are true = refl
+classes-are false = refl
+
+-- the class at one of these places, and none past the last
+pub class-there : (l : Bool) (i : ℕ) {j : ℕ} {x : ℕ} → j ≡ i → x ≡ getD class-numbers i 0 → x ≡ getD (keys (cat-of l .classes)) j 0
+class-there l i e f = rw (e, classes-are l) f
+
+pub no-class-there : (l : Bool) (j : ℕ) → Avoids j (4 ∷ 3 ∷ 2 ∷ 1 ∷ 0 ∷ []) → 0 ≡ getD (keys (cat-of l .classes)) j 0
+no-class-there l j a =
+    let four = a .1 in
+    let three = a .0 .1 in
+    let two = a .0 .0 .1 in
+    let one = a .0 .0 .0 .1 in
+    let zero = a .0 .0 .0 .0 .1 in
+    let past : 5 ≤ j = omega arith in
+    rw (classes-are l) (sym (List·getD-eq-default class-numbers 0 past))
 
 pub known-classes : (l : Bool) (c : ℕ) → known (cat-of l) c ≡ among c class-numbers
 unfolding computing-tables

@@ -1,9 +1,9 @@
 // What holds of each class as a whole. Where the products agree, `large` isn't asked.
 use super::Unkept;
 ghost use mathlib.Core.Path.{_≡_};
-ghost use Rattle.rules.specs.Maps.{among};
+ghost use lib.ListN.{length, getD};
+ghost use Rattle.rules.specs.Maps.{keys, among};
 ghost use Rattle.rules.specs.Catalogue.{known, is-created, leader};
-ghost use Rattle.store.specs.Layout.{contents-width};
 ghost use Rattle.catalogue.specs.CatOf.{cat-of, class-for};
 ghost use Rattle.catalogue.specs.Families.{inside-entry, Companion};
 ghost use Rattle.catalogue.specs.Meaning.{unkept-of};
@@ -17,6 +17,27 @@ const SET: u8 = 8;
 const GET: u8 = 9;
 
 const RESET: u8 = 15;
+
+// How many classes the product has.
+pub fn class_count(large: bool) -> usize
+    ensures { λ r. ⌜ r ≡ length (keys (cat-of large .classes)) ⌝ }
+{
+    5
+}
+
+// The j-th class of the product, in rising order; 0 past the last.
+pub fn class_at(large: bool, j: usize) -> u16
+    ensures { λ r. ⌜ r ≡ getD (keys (cat-of large .classes)) j 0 ⌝ }
+{
+    match j {
+        0 => 2,
+        1 => 11,
+        2 => 45,
+        3 => 46,
+        4 => 47,
+        _ => 0,
+    }
+}
 
 pub fn known(large: bool, class: u16) -> bool
     ensures { λ r. ⌜ r ≡ known (cat-of large) class ⌝ }
@@ -66,20 +87,6 @@ pub fn companion_of(large: bool, class: u16) -> u16
 {
     match class {
         45 => 46,
-        _ => 0,
-    }
-}
-
-// How many bytes the stored contents of an instance take.
-pub fn width_of(large: bool, class: u16) -> usize
-    ensures { λ r. ⌜ r ≡ contents-width (class-for large class) ⌝ }
-{
-    match class {
-        2 => 1,
-        11 => if large { 15 } else { 6 },
-        45 => 11,
-        46 => if large { 24 } else { 20 },
-        47 => if large { 13 } else { 12 },
         _ => 0,
     }
 }

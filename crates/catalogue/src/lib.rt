@@ -1,4 +1,4 @@
-// What the engine knows of a class, as tables: the two catalogues as code. Beside it only `soundness` has a branch for a class:
+// What the engine knows of a class, as tables: the two catalogues as code. Beside it only `contents` has a branch for a class:
 // the straight-line tests of a whole store's contents.
 pub mod attributes;
 pub mod classes;

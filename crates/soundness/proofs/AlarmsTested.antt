@@ -21,10 +21,10 @@ use Rattle.rules.proofs.Standing.{automatic-rise}
 use Rattle.store.specs.Layout.{slot-count, code-alarms, fits}
 use Rattle.store.specs.Decode.{read-alarms}
 use Rattle.store.proofs.Widths.{slots-are-enough}
-use Rattle.soundness.specs.Tests.{alarm-byte-test, alarms-test}
-use Rattle.soundness.proofs.Conjunctions.{and-assoc, past, last-of}
+use Rattle.contents.specs.Tests.{alarm-byte-test, alarms-test}
+use Rattle.contents.proofs.Conjunctions.{and-assoc, past, last-of}
+use Rattle.contents.proofs.Computed.{all-below, below}
 use Rattle.soundness.proofs.Blocks.{fill-take}
-use Rattle.soundness.proofs.Computed.{all-below, below}
 
 -- ---- a byte's bits
 

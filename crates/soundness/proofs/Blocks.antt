@@ -11,7 +11,7 @@ use Rattle.rules.specs.Maps.{_and_, all, same}
 use Rattle.rules.specs.Bytes.{two, bytes, fill, are-bytes, all-zero}
 use Rattle.rules.proofs.Laws.{both, and-true, bool-eq, eqb-true, eqb-eq, same-refl, true-and, ltb-lt}
 use Rattle.store.proofs.BytesBack.{fill-keeps}
-use Rattle.soundness.proofs.Conjunctions.{and-assoc}
+use Rattle.contents.proofs.Conjunctions.{and-assoc}
 
 -- two blocks of one length, and what follows them
 pub same-append : (x y u v : List ℕ) → length x ≡ length u → same (x ++ y) (u ++ v) ≡ (same x u and same y v)

@@ -1,4 +1,3 @@
-pub mod Conjunctions
 pub mod Computed
 pub mod Blocks
 pub mod TableTested
@@ -7,10 +6,7 @@ pub mod AlarmsTested
 pub mod WalkTested
 pub mod LiveTested
 pub mod StoreTested
-pub mod ContentsTested
-pub mod Classes
 pub mod SoundTested
-pub mod Entries
 pub mod Parts
 pub mod Turns
 pub mod Known

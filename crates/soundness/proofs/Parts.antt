@@ -1,66 +1,23 @@
--- The other parts of a store, byte by byte: alarms, the remembered command, what may be absent, and where each part lies.
-use Prim.Native.Nat.{ℕ, zero, suc, _+_, _*_, _/_, _%_, _≤_, _<_}
+-- The other parts of a store, byte by byte: the remembered command, what may be absent, and where each part lies.
+use Prim.Native.Nat.{ℕ, zero, suc, _+_, _*_, _/_, _≤_, _<_}
 use native.Mathlib.Omega.{arith}
 use mathlib.Core.Path.{_≡_, refl, sym, _∙_, ap}
-use mathlib.Core.Bool.{Bool, true, false, not, _&&_}
+use mathlib.Core.Bool.{Bool, not, _&&_}
 use mathlib.Core.List.{List, [], _∷_}
 use lib.ListN.{length, take, drop, getD}
-use lib.Seq.{drop-drop, take-take, getD-take, getD-drop}
+use lib.Seq.{drop-drop, take-take, getD-take}
 use lib.Dec.{eqb}
-use Rattle.rules.specs.Maps.{_and_, is-some, first-that-applies, computing-maps}
-use Rattle.rules.specs.Bytes.{byte, two, are-bytes, all-zero, bits, computing-bytes}
+use Rattle.rules.specs.Maps.{_and_, is-some, first-that-applies}
+use Rattle.rules.specs.Bytes.{byte, two, all-zero}
 use Rattle.rules.specs.Masks.{total}
-use Rattle.rules.specs.Catalogue.{Catalogue, class}
-use Rattle.rules.specs.Legal.{automatic-keys, declared-from, header-drops, computing-legal}
+use Rattle.rules.specs.Catalogue.{Catalogue}
+use Rattle.rules.specs.Legal.{automatic-keys, header-drops}
 use Rattle.rules.specs.Run.{store-length}
 use Rattle.rules.proofs.Laws.{cases, same?, eqb-true, eqb-false}
-use Rattle.rules.proofs.ByteLaws.{byte-small}
 use Rattle.store.specs.Layout.{part-lengths}
 use Rattle.store.specs.Decode.{cut-parts}
-use Rattle.store.specs.Entries.{computing-store}
-use Rattle.rules.specs.Products.{cat-of}
-use Rattle.soundness.specs.Tests.{alarm-byte-test, alarms-test, memory-test, optional-test, store-test, table-test}
-use Rattle.soundness.proofs.Conjunctions.{and-end}
-use Rattle.soundness.proofs.Computed.{all-below, alike-below}
-use Rattle.soundness.proofs.Entries.{small-keys, large-keys, none-left}
-
--- ---- alarms: of a UNI only alarm 0, at the top of the byte, is declared
-
-top-bit : (x : ℕ) → x < 256 → declared-from 0 (0 ∷ []) (bits 8 x) ≡ eqb (x % 128) 0
-top-bit x h = alike-below (λ x. declared-from 0 (0 ∷ []) (bits 8 x)) (λ x. eqb (x % 128) 0) 256 (unfold all-below computing-maps computing-bytes computing-legal in refl) x h
-
-uni-alarms : (large : Bool) → class (cat-of large) 11 .alarms ≡ 0 ∷ []
-unfolding cat-of computing-store
-uni-alarms true = refl
-uni-alarms false = refl
-
-module _ (b : List ℕ) (h : length b ≡ 4) (bs : are-bytes b ≡ true) where
-  alarm-byte : (large : Bool) (i : ℕ) → alarm-byte-test (class (cat-of large) 11) (byte b i) ≡ eqb (byte b i % 128) 0
-  unfolding alarm-byte-test
-  alarm-byte large i = rw (uni-alarms large) (top-bit (byte b i) (byte-small b i bs))
-
-  pub small-alarms : alarms-test (cat-of false) (automatic-keys (cat-of false)) b ≡ (eqb (byte b 0 % 128) 0 and all-zero (drop 1 b))
-  unfolding cat-of alarms-test
-  small-alarms = rw (small-keys, alarm-byte false 0)
-
-  pub large-alarms : alarms-test (cat-of true) (automatic-keys (cat-of true)) b
-      ≡ (eqb (byte b 0 % 128) 0 and (eqb (byte b 1 % 128) 0 and (eqb (byte b 2 % 128) 0 and eqb (byte b 3 % 128) 0)))
-  unfolding cat-of alarms-test
-  large-alarms = rw (
-    large-keys,
-    drop-drop 1 1 b,
-    drop-drop 1 2 b,
-    drop-drop 1 3 b,
-    getD-drop 1 b 0 0,
-    getD-drop 2 b 0 0,
-    getD-drop 3 b 0 0,
-    alarm-byte true 0,
-    alarm-byte true 1,
-    alarm-byte true 2,
-    alarm-byte true 3,
-    none-left 4 b h,
-    and-end (eqb (byte b 3 % 128) 0),
-  )
+use Rattle.contents.specs.Tests.{alarms-test}
+use Rattle.soundness.specs.Tests.{memory-test, optional-test, store-test, table-test}
 
 -- ---- the remembered command
 

@@ -21,9 +21,10 @@ use Rattle.store.specs.Layout.{encode}
 use Rattle.store.specs.Decode.{read-state, decode-as, decode, sound}
 use Rattle.store.specs.Entries.{computing-store}
 use Rattle.store.proofs.Built.{built-products-fit}
-use Rattle.soundness.specs.Tests.{family-test, store-test}
-use Rattle.soundness.proofs.Conjunctions.{past}
-use Rattle.soundness.proofs.Classes.{counter-width, counter-legal}
+use Rattle.contents.specs.Tests.{family-test}
+use Rattle.contents.proofs.Conjunctions.{past}
+use Rattle.contents.proofs.Classes.{counter-width, counter-legal}
+use Rattle.soundness.specs.Tests.{store-test}
 use Rattle.soundness.proofs.StoreTested.{AnyCounter, store-tested}
 
 -- ---- class 2: any byte is a legal counter

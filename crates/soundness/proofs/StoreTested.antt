@@ -20,8 +20,9 @@ use Rattle.rules.proofs.ByteLaws.{bytes-none, bytes-take, bytes-drop, byte-smal
 use Rattle.store.specs.Layout.{ont-data-width, slot-count, table-length, memory-length, part-lengths, entry-bytes, code-table, code-alarms, code-memory, code-optional, parts, encode, fits}
 use Rattle.store.specs.Decode.{read-alarms, read-memory, read-table, read-state, cut-parts, part}
 use Rattle.store.proofs.Parts.{Remembers, each-part-has-its-length, parts-lengths}
-use Rattle.soundness.specs.Tests.{family-test, alarms-test, memory-test, table-test, optional-test, store-test}
-use Rattle.soundness.proofs.Conjunctions.{and-end}
+use Rattle.contents.specs.Tests.{family-test, alarms-test}
+use Rattle.contents.proofs.Conjunctions.{and-end}
+use Rattle.soundness.specs.Tests.{memory-test, table-test, optional-test, store-test}
 use Rattle.soundness.proofs.Blocks.{same-front}
 use Rattle.soundness.proofs.TableTested.{table-tested}
 use Rattle.soundness.proofs.OptionalTested.{optional-tested, memory-tested}

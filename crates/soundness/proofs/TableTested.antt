@@ -24,8 +24,9 @@ use Rattle.store.specs.Layout.{slot-width, slots-length, place-width, place-len
 use Rattle.store.specs.Decode.{read-contents, read-entry, read-slots, read-place, read-places, read-table}
 use Rattle.store.proofs.Widths.{slots-are-enough, places-are-enough, slot-fits, place-fits}
 use Rattle.store.proofs.TablesBack.{slot-length, place-has-its-length}
-use Rattle.soundness.specs.Tests.{family-test, slots-test, key-in, place-test, places-test, table-test}
-use Rattle.soundness.proofs.Conjunctions.{and-assoc, and-swap}
+use Rattle.contents.specs.Tests.{family-test, slots-test}
+use Rattle.contents.proofs.Conjunctions.{and-assoc, and-swap}
+use Rattle.soundness.specs.Tests.{key-in, place-test, places-test, table-test}
 use Rattle.soundness.proofs.Blocks.{same-front, same-zeros, four-front, fill-nothing, fill-front, fill-take}
 
 -- ---- keys that rise, from a bound on

@@ -15,7 +15,8 @@ use borrow.Author.Tests.{lt-leb}
 use Rattle.rules.proofs.Laws.{true-and, le-leb}
 use Rattle.store.specs.Entries.{computing-store}
 use Rattle.rules.specs.Products.{cat-of}
-use Rattle.soundness.specs.Tests.{slots-test, key-in, entry-test, place-test, places-test, table-test}
+use Rattle.contents.specs.Tests.{slots-test, entry-test}
+use Rattle.soundness.specs.Tests.{key-in, place-test, places-test, table-test}
 
 -- a part that goes to the end
 pub to-the-end : (n at : ℕ) (b : List ℕ) → length b ≤ at + n → take n (drop at b) ≡ drop at b

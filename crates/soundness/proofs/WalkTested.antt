@@ -16,8 +16,8 @@ use Rattle.rules.proofs.Laws.{cases, never, both, and-true, le-leb}
 use Rattle.rules.proofs.Standing.{stands, all-imp, automatic-keys-stand, stands-not-created}
 use Rattle.store.specs.Layout.{slot-count, code-alarms, fits}
 use Rattle.store.specs.Decode.{read-alarms}
-use Rattle.soundness.specs.Tests.{alarms-test}
-use Rattle.soundness.proofs.Conjunctions.{and-end}
+use Rattle.contents.specs.Tests.{alarms-test}
+use Rattle.contents.proofs.Conjunctions.{and-end}
 use Rattle.soundness.proofs.AlarmsTested.{shown-by, bitmaps-tested}
 
 -- ---- instances that are there by themselves

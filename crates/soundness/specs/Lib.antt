@@ -1,2 +1,1 @@
-pub mod ClassTests
 pub mod Tests

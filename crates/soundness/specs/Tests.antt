@@ -1,36 +1,22 @@
 -- Soundness as tests of bytes, in the order in which the code makes them.
 use Prim.Native.Nat.{ℕ, zero, suc, _+_}
 use mathlib.Core.Bool.{Bool, not, cond}
-use mathlib.Core.List.{List, [], _∷_}
+use mathlib.Core.List.{List}
 use lib.ListN.{take, drop}
 use lib.Dec.{eqb, leb}
-use Rattle.rules.specs.Maps.{_and_, Map, is-some, first-that-applies}
-use Rattle.rules.specs.Bytes.{byte, two, all-zero, bits}
-use Rattle.rules.specs.Catalogue.{Class, Catalogue, class, is-created, family, key}
-use Rattle.rules.specs.State.{class-of}
-use Rattle.rules.specs.Legal.{legal-contents, automatic-keys, declared-from, header-drops}
-use Rattle.store.specs.Layout.{slot-width, slots-length, place-length, contents-width}
-use Rattle.store.specs.Decode.{read-contents, part}
+use Rattle.rules.specs.Maps.{_and_, is-some, first-that-applies}
+use Rattle.rules.specs.Bytes.{byte, two, all-zero}
+use Rattle.rules.specs.Catalogue.{Catalogue, key}
+use Rattle.rules.specs.Legal.{automatic-keys, header-drops}
+use Rattle.store.specs.Layout.{slots-length, place-length}
+use Rattle.store.specs.Decode.{part}
+use Rattle.contents.specs.Tests.{slots-test, entry-test, alarms-test}
 
 -- ---- a table
-
--- the contents of each class of a family, one after another, then zeros
-unfoldable pub family-test : Catalogue → Map Class → List ℕ → Bool
-family-test cat [] b = all-zero b
-family-test cat (e ∷ m) b = legal-contents cat (e .1) (read-contents (e .1) b) and family-test cat m (drop (contents-width (e .1)) b)
-
--- a slot for each of these keys, then zeros
-unfoldable pub slots-test : Catalogue → List ℕ → List ℕ → Bool
-slots-test cat [] b = all-zero b
-slots-test cat (k ∷ l) b = family-test cat (family cat (class-of k)) (take slot-width b) and slots-test cat l (drop slot-width b)
 
 -- the key that a place begins with
 abbrev pub key-in : List ℕ → ℕ
 key-in r = key (two r 0) (two r 2)
-
--- what follows the key of a place of class c
-abbrev pub entry-test : Catalogue → ℕ → List ℕ → Bool
-entry-test cat c b = is-created (class cat c .creation) and family-test cat (family cat c) b
 
 -- a place whose key is `low` or more
 unfoldable pub place-test : Catalogue → ℕ → List ℕ → Bool
@@ -45,17 +31,6 @@ unfoldable pub table-test : Catalogue → List ℕ → Bool
 table-test cat b = leb (byte b 0) (cat .places)
     and slots-test cat (automatic-keys cat) (take slots-length (drop 1 b))
     and places-test cat (byte b 0) 0 (drop (1 + slots-length) b)
-
--- ---- alarms
-
--- a byte of alarms, in which only declared ones are on
-unfoldable pub alarm-byte-test : Class → ℕ → Bool
-alarm-byte-test k x = declared-from 0 (k .alarms) (bits 8 x)
-
--- a byte for each of these keys, then zeros
-unfoldable pub alarms-test : Catalogue → List ℕ → List ℕ → Bool
-alarms-test cat [] b = all-zero b
-alarms-test cat (k ∷ l) b = alarm-byte-test (class cat (class-of k)) (byte b 0) and alarms-test cat l (drop 1 b)
 
 -- ---- the remembered command
 

@@ -1,120 +1,14 @@
-// Is a store sound? A test for each part, over the part's own bytes. Tests that need no order are joined by `&`, which makes no branch.
+// Is a store sound? A test for each part, over the part's own bytes; what is known of a class stands in `contents`. Tests that need no
+// order are joined by `&`, which makes no branch.
 ghost use mathlib.Core.Path.{_≡_};
-ghost use mathlib.Core.Bool.{_&&_};
 ghost use Prim.Native.Nat.{_<_, _≤_};
-ghost use lib.Dec.{leb};
 ghost use lib.ListN.{length, take};
 ghost use Rattle.rules.specs.Legal.{automatic-keys};
 ghost use Rattle.rules.specs.Run.{store-length};
 ghost use Rattle.rules.specs.Products.{built-products, cat-of};
 ghost use Rattle.store.specs.Decode.{sound};
-ghost use Rattle.soundness.specs.ClassTests.{uni-test, profile-test, is-uni, pointer-test, port-test};
-ghost use Rattle.soundness.specs.Tests.{slots-test, key-in, entry-test, place-test, places-test, table-test, alarms-test, memory-test, optional-test, store-test};
-
-// Is a number in a range, both ends in it?
-fn between(x: u16, low: u16, high: u16) -> bool
-    ensures { λ r. ⌜ r ≡ (leb low x && leb x high) ⌝ }
-{
-    (low <= x) & (x <= high)
-}
-
-// Is there a UNI of this number?
-fn is_uni(large: bool, i: u16) -> bool
-    ensures { λ r. ⌜ r ≡ is-uni large i ⌝ }
-{
-    if large {
-        (i == 0x0101) | ((i == 0x0102) | ((i == 0x0103) | (i == 0x0104)))
-    } else {
-        i == 0x0101
-    }
-}
-
-// The contents of a UNI, 11.
-fn uni_legal(large: bool, c: &[u8]) -> bool
-    requires { ⌜ length (now c) ≡ 15 ⌝ }
-    ensures { λ r. ⌜ r ≡ uni-test large (now (c .entry)) ⌝ }
-{
-    let common = ((c[3] == 0) | (c[3] == 3)) & ((c[4] <= 1) & (c[5] <= 1));
-    if large {
-        common & ((c[9] <= 2) & ((c[12] <= 2) & (c[13] <= 1)))
-    } else {
-        common
-    }
-}
-
-// The contents of a bridge service profile, 45.
-fn profile_legal(c: &[u8]) -> bool
-    requires { ⌜ 11 ≤ length (now c) ⌝ }
-    ensures { λ r. ⌜ r ≡ profile-test (now (c .entry)) ⌝ }
-{
-    let age = between(octets::number_at(c, 5), 0x0600, 0x2800);
-    let hello = between(octets::number_at(c, 7), 0x0100, 0x0A00);
-    let delay = between(octets::number_at(c, 9), 0x0400, 0x1E00);
-    (c[0] <= 1) & ((c[1] <= 1) & ((c[2] <= 1) & (age & (hello & delay))))
-}
-
-// A port's TPPointer: where TPType is 1 it names a UNI of this product, else it may be anything.
-fn pointer_legal(large: bool, c: &[u8]) -> bool
-    requires { ⌜ 12 ≤ length (now c) ⌝ }
-    ensures { λ r. ⌜ r ≡ pointer-test large (now (c .entry)) ⌝ }
-{
-    if c[3] == 1 {
-        is_uni(large, octets::number_at(c, 4))
-    } else {
-        true
-    }
-}
-
-// The contents of a port, 47. The bridge that it names may since be gone, so that pointer isn't judged.
-fn port_legal(large: bool, c: &[u8]) -> bool
-    requires { ⌜ 13 ≤ length (now c) ⌝ }
-    ensures { λ r. ⌜ r ≡ port-test large (now (c .entry)) ⌝ }
-{
-    let pointer = pointer_legal(large, c);
-    let priority = octets::number_at(c, 6);
-    let cost = octets::number_at(c, 8);
-    let common = ((c[3] == 1) | (c[3] == 2))
-        & (pointer & ((priority <= 255) & ((1 <= cost) & ((c[10] <= 1) & (c[11] <= 1)))));
-    if large { common & (c[12] <= 1) } else { common }
-}
-
-// The slots: in Large four UNIs, in Small one, and zeros.
-fn slots_ok(large: bool, b: &[u8]) -> bool
-    requires { ⌜ length (now b) ≡ 60 ⌝ }
-    ensures { λ r. ⌜ r ≡ slots-test (cat-of large) (automatic-keys (cat-of large)) (now (b .entry)) ⌝ }
-{
-    if large {
-        uni_legal(true, &b[0..15])
-            & (uni_legal(true, &b[15..30])
-                & (uni_legal(true, &b[30..45]) & uni_legal(true, &b[45..60])))
-    } else {
-        uni_legal(false, &b[0..15]) & octets::zeros_from(b, 6)
-    }
-}
-
-// What follows a place's key: a 45 with its 46, which in Large leave no room, or a 47; and zeros.
-fn entry_ok(large: bool, class: u16, c: &[u8]) -> bool
-    requires { ⌜ length (now c) ≡ 35 ⌝ }
-    ensures { λ r. ⌜ r ≡ entry-test (cat-of large) class (now (c .entry)) ⌝ }
-{
-    match class {
-        45 => {
-            if large {
-                profile_legal(c)
-            } else {
-                profile_legal(c) & octets::zeros_from(c, 31)
-            }
-        }
-        47 => {
-            if large {
-                port_legal(true, c) & octets::zeros_from(c, 13)
-            } else {
-                port_legal(false, c) & octets::zeros_from(c, 12)
-            }
-        }
-        _ => false,
-    }
-}
+ghost use Rattle.contents.specs.Tests.{alarms-test};
+ghost use Rattle.soundness.specs.Tests.{key-in, place-test, places-test, table-test, memory-test, optional-test, store-test};
 
 // The key that a place begins with, as a number that can still grow by one.
 fn key_of(r: &[u8]) -> u64
@@ -129,7 +23,7 @@ fn place_ok(large: bool, low: u64, r: &[u8]) -> bool
     requires { ⌜ length (now r) ≡ 39 ⌝ }
     ensures { λ t. ⌜ t ≡ place-test (cat-of large) low (now (r .entry)) ⌝ }
 {
-    (low <= key_of(r)) & entry_ok(large, octets::number_at(r, 0), &r[4..39])
+    (low <= key_of(r)) & contents::entry_ok(large, octets::number_at(r, 0), &r[4..39])
 }
 
 // So many places, whose keys rise, then zeros.
@@ -160,19 +54,7 @@ fn table_ok(large: bool, b: &[u8]) -> bool
     if 40 < n {
         return false;
     }
-    slots_ok(large, &b[1..61]) & places_ok(large, n, &b[61..1621])
-}
-
-// Alarms, a byte for each slot: only a UNI's alarm 0, the top bit, is declared.
-fn alarms_ok(large: bool, b: &[u8]) -> bool
-    requires { ⌜ length (now b) ≡ 4 ⌝ }
-    ensures { λ r. ⌜ r ≡ alarms-test (cat-of large) (automatic-keys (cat-of large)) (now (b .entry)) ⌝ }
-{
-    if large {
-        (b[0] % 128 == 0) & ((b[1] % 128 == 0) & ((b[2] % 128 == 0) & (b[3] % 128 == 0)))
-    } else {
-        (b[0] % 128 == 0) & octets::zeros_from(b, 1)
-    }
+    contents::slots_ok(large, &b[1..61]) & places_ok(large, n, &b[61..1621])
 }
 
 // A remembered command: one that was not dropped for its header.
@@ -202,7 +84,7 @@ fn walk_part_ok(large: bool, b: &[u8]) -> bool
     if b[0] == 0 {
         return octets::zeros_from(b, 1);
     }
-    (b[0] == 1) & alarms_ok(large, &b[1..5])
+    (b[0] == 1) & contents::alarms_ok(large, &b[1..5])
 }
 
 // The part of the upload: none, or its table.
@@ -222,7 +104,7 @@ fn parts_ok(large: bool, s: &[u8]) -> bool
     ensures { λ r. ⌜ r ≡ store-test (cat-of large) (take store-length (now (s .entry))) ⌝ }
 {
     memory_part_ok(&s[2..91])
-        & (alarms_ok(large, &s[91..95])
+        & (contents::alarms_ok(large, &s[91..95])
             & (walk_part_ok(large, &s[95..100])
                 & (table_ok(large, &s[101..1722]) & upload_part_ok(large, &s[1722..3344]))))
 }

@@ -2,7 +2,7 @@ use mathlib.Core.Path.{refl}
 use lib.ListN.{length, getD}
 use Rattle.rules.specs.Run.{store-length}
 use Rattle.rules.proofs.Laws.{lt-ltb, le-ltb, eqb-true, eqb-false}
-use Rattle.soundness.proofs.Known.{known-bytes}
+use Rattle.contents.proofs.Known.{known-bytes}
 use Rattle.rules.specs.Products.{cat-of}
 use Rattle.soundness.proofs.SoundTested.{sound-tested}
 use borrow.Author.Needs.{needs}

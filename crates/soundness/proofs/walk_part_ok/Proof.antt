@@ -2,7 +2,7 @@ use mathlib.Core.Path.{refl, sym, _∙_}
 use Rattle.rules.specs.Maps.{_and_}
 use Rattle.rules.specs.Products.{cat-of}
 use Rattle.rules.specs.Legal.{automatic-keys}
-use Rattle.soundness.specs.Tests.{alarms-test}
+use Rattle.contents.specs.Tests.{alarms-test}
 use Rattle.soundness.proofs.Turns.{to-the-end}
 use Rattle.soundness.proofs.Parts.{absent, present}
 use borrow.Author.Needs.{needs}

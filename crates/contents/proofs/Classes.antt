@@ -17,9 +17,9 @@ use Rattle.rules.specs.Products.{Small, Large, any, with-rights, RW, RL, RC, RW
 use Rattle.store.specs.Layout.{contents-width}
 use Rattle.store.specs.Decode.{read-contents}
 use Rattle.store.specs.Entries.{computing-store}
-use Rattle.soundness.specs.ClassTests.{uni-test, profile-test, is-uni, port-test}
-use Rattle.soundness.proofs.Conjunctions.{and-assoc, or-end, two-of, passed, past, last-of}
-use Rattle.soundness.proofs.ContentsTested.{each-at, legal-by-rules, byte-upto, byte-either, two-range, two-upto, two-from, names-created, names-automatic}
+use Rattle.contents.specs.ClassTests.{uni-test, profile-test, is-uni, port-test}
+use Rattle.contents.proofs.Conjunctions.{and-assoc, or-end, two-of, passed, past, last-of}
+use Rattle.contents.proofs.ContentsTested.{each-at, legal-by-rules, byte-upto, byte-either, two-range, two-upto, two-from, names-created, names-automatic}
 
 -- ---- 2 ONT data
 

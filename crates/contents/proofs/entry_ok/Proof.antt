@@ -1,10 +1,10 @@
 use mathlib.Core.Path.{sym}
 use Rattle.rules.specs.Maps.{_and_}
-use Rattle.soundness.proofs.Known.{known-bytes}
-use Rattle.soundness.proofs.Entries.{small-profile-entry, large-profile-entry, small-port-entry, large-port-entry, no-entry}
+use Rattle.contents.proofs.Known.{known-bytes}
+use Rattle.contents.proofs.Entries.{small-profile-entry, large-profile-entry, small-port-entry, large-port-entry, no-entry}
 use borrow.Author.Needs.{needs}
-use Rattle.soundness.proofs.entry_ok.Statement.{statement}
-use Rattle.soundness.proofs.entry_ok.Tie as tie
+use Rattle.contents.proofs.entry_ok.Statement.{statement}
+use Rattle.contents.proofs.entry_ok.Tie as tie
 
 profile-legal-requires : tie.Need-profile-legal-requires
 profile-legal-requires c κs = search needs

@@ -1,8 +1,8 @@
 use mathlib.Core.Path.{refl}
 use Rattle.rules.specs.Maps.{_and_, _or_}
 use borrow.Author.Needs.{needs}
-use Rattle.soundness.proofs.uni_legal.Statement.{statement}
-use Rattle.soundness.proofs.uni_legal.Tie as tie
+use Rattle.contents.proofs.uni_legal.Statement.{statement}
+use Rattle.contents.proofs.uni_legal.Tie as tie
 
 shared-slice-read-common : tie.Need-shared-slice-read-common
 shared-slice-read-common c = search needs

@@ -1,8 +1,8 @@
 use mathlib.Core.Path.{refl}
 use Rattle.rules.specs.Maps.{_and_, _or_}
 use borrow.Author.Needs.{needs}
-use Rattle.soundness.proofs.port_legal.Statement.{statement}
-use Rattle.soundness.proofs.port_legal.Tie as tie
+use Rattle.contents.proofs.port_legal.Statement.{statement}
+use Rattle.contents.proofs.port_legal.Tie as tie
 
 pointer-legal-requires : tie.Need-pointer-legal-requires
 pointer-legal-requires c κs = search needs

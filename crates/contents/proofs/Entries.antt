@@ -10,18 +10,18 @@ use lib.Seq.{length-take-le, drop-drop, drop-append-le}
 use lib.Dec.{eqb}
 use Rattle.rules.specs.Maps.{_and_, find, all}
 use Rattle.rules.specs.Bytes.{are-bytes, all-zero}
-use Rattle.rules.specs.Catalogue.{class, no-class, is-created, family, key}
+use Rattle.rules.specs.Catalogue.{class, no-class, is-created, family}
 use Rattle.rules.specs.Legal.{automatic-keys}
-use Rattle.rules.specs.Products.{Small, Large, ont-data-class, uni-class, profile-class, bridge-class}
+use Rattle.rules.specs.Products.{Small, Large, cat-of, ont-data-class, uni-class, profile-class, bridge-class}
 use Rattle.rules.proofs.Laws.{cases, true-and, eqb-false}
 use Rattle.rules.proofs.ByteLaws.{bytes-take, bytes-drop}
 use Rattle.store.specs.Entries.{computing-store}
 use Rattle.octets.proofs.Tests.{zeros-append}
-use Rattle.rules.specs.Products.{cat-of}
-use Rattle.soundness.specs.ClassTests.{uni-test, profile-test, port-test}
-use Rattle.soundness.specs.Tests.{family-test, slots-test, entry-test}
-use Rattle.soundness.proofs.Conjunctions.{and-assoc, and-end}
-use Rattle.soundness.proofs.Classes.{small-uni, large-uni, small-bridge, large-bridge, small-port, large-port, small-uni-width, large-uni-width, profile-width, small-bridge-width, large-bridge-width, small-port-width, large-port-width, small-uni-legal, large-uni-legal, profile-legal, small-bridge-legal, large-bridge-legal, small-port-legal, large-port-legal}
+use Rattle.catalogue.proofs.SlotLaws.{slots-are}
+use Rattle.contents.specs.ClassTests.{uni-test, profile-test, port-test}
+use Rattle.contents.specs.Tests.{family-test, slots-test, entry-test}
+use Rattle.contents.proofs.Conjunctions.{and-assoc, and-end}
+use Rattle.contents.proofs.Classes.{small-uni, large-uni, small-bridge, large-bridge, small-port, large-port, small-uni-width, large-uni-width, profile-width, small-bridge-width, large-bridge-width, small-port-width, large-port-width, small-uni-legal, large-uni-legal, profile-legal, small-bridge-legal, large-bridge-legal, small-port-legal, large-port-legal}
 
 -- nothing is left of a block that is full
 pub none-left : (n : ℕ) (b : List ℕ) → length b ≡ n → all-zero (drop n b) ≡ true
@@ -127,14 +127,6 @@ no-entry large c b h g = rw (not-created large c h g)
 
 -- ---- slots
 
-pub small-keys : automatic-keys Small ≡ key 11 0x0101 ∷ []
-unfolding computing-store
-small-keys = refl
-
-pub large-keys : automatic-keys Large ≡ key 11 0x0101 ∷ key 11 0x0102 ∷ key 11 0x0103 ∷ key 11 0x0104 ∷ []
-unfolding computing-store
-large-keys = refl
-
 -- zeros behind the front of a block, and behind the block
 zeros-behind : (m n : ℕ) (b : List ℕ) → m ≤ n → n ≤ length b → (all-zero (drop m (take n b)) and all-zero (drop n b)) ≡ all-zero (drop m b)
 zeros-behind m n b h k =
@@ -148,7 +140,7 @@ module _ (b : List ℕ) (h : length b ≡ 60) (bs : are-bytes b ≡ true) where
   small-slots =
       let l : length (take 15 b) ≡ 15 = length-take-le 15 b (omega arith) in
       rw (
-        small-keys,
+        slots-are false,
         small-uni-block (take 15 b) (bytes-take 15 b bs) (omega arith),
         and-assoc (uni-test false (take 15 b)) (all-zero (drop 6 (take 15 b))) (all-zero (drop 15 b)),
         zeros-behind 6 15 b (omega arith) (omega arith),
@@ -161,7 +153,7 @@ module _ (b : List ℕ) (h : length b ≡ 60) (bs : are-bytes b ≡ true) where
       ≡ (uni-test true (take 15 b) and (uni-test true (take 15 (drop 15 b)) and (uni-test true (take 15 (drop 30 b)) and uni-test true (take 15 (drop 45 b)))))
   unfolding cat-of slots-test
   large-slots = rw (
-    large-keys,
+    slots-are true,
     drop-drop 15 15 b,
     drop-drop 15 30 b,
     drop-drop 15 45 b,

@@ -1,8 +1,8 @@
 use mathlib.Core.Path.{refl}
 use Rattle.rules.specs.Maps.{_and_}
 use borrow.Author.Needs.{needs}
-use Rattle.soundness.proofs.profile_legal.Statement.{statement}
-use Rattle.soundness.proofs.profile_legal.Tie as tie
+use Rattle.contents.proofs.profile_legal.Statement.{statement}
+use Rattle.contents.proofs.profile_legal.Tie as tie
 
 number-at-requires : tie.Need-number-at-requires
 number-at-requires c κs = search needs

@@ -1,10 +1,10 @@
 use mathlib.Core.Path.{sym}
 use Rattle.rules.specs.Maps.{_and_}
-use Rattle.soundness.proofs.Known.{known-bytes}
-use Rattle.soundness.proofs.Entries.{small-slots, large-slots}
+use Rattle.contents.proofs.Known.{known-bytes}
+use Rattle.contents.proofs.Entries.{small-slots, large-slots}
 use borrow.Author.Needs.{needs}
-use Rattle.soundness.proofs.slots_ok.Statement.{statement}
-use Rattle.soundness.proofs.slots_ok.Tie as tie
+use Rattle.contents.proofs.slots_ok.Statement.{statement}
+use Rattle.contents.proofs.slots_ok.Tie as tie
 
 sub-uni-legal : tie.Need-sub-uni-legal
 sub-uni-legal c = search needs

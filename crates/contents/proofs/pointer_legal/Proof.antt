@@ -1,8 +1,8 @@
 use mathlib.Core.Path.{refl}
 use borrow.Author.Tests.{eq-eqb, ne-eqb}
 use borrow.Author.Needs.{needs}
-use Rattle.soundness.proofs.pointer_legal.Statement.{statement}
-use Rattle.soundness.proofs.pointer_legal.Tie as tie
+use Rattle.contents.proofs.pointer_legal.Statement.{statement}
+use Rattle.contents.proofs.pointer_legal.Tie as tie
 
 shared-slice-read-if1 : tie.Need-shared-slice-read-if1
 shared-slice-read-if1 c = search needs

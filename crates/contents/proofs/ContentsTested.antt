@@ -18,7 +18,7 @@ use Rattle.rules.proofs.Laws.{cases, lt-ltb, both, true-and, same-refl, le-leb}
 use Rattle.rules.proofs.ByteLaws.{keys-cut, sized-cut, bytes-cut, two-small}
 use Rattle.store.specs.Layout.{contents-width}
 use Rattle.store.specs.Decode.{read-contents}
-use Rattle.soundness.proofs.Conjunctions.{and-end, or-end}
+use Rattle.contents.proofs.Conjunctions.{and-end, or-end}
 
 -- ---- attribute by attribute
 

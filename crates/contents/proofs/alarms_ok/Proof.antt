@@ -1,10 +1,10 @@
 use mathlib.Core.Path.{sym}
 use Rattle.rules.specs.Maps.{_and_}
-use Rattle.soundness.proofs.Known.{known-bytes}
-use Rattle.soundness.proofs.Parts.{small-alarms, large-alarms}
+use Rattle.contents.proofs.Known.{known-bytes}
+use Rattle.contents.proofs.AlarmBytes.{small-alarms, large-alarms}
 use borrow.Author.Needs.{needs}
-use Rattle.soundness.proofs.alarms_ok.Statement.{statement}
-use Rattle.soundness.proofs.alarms_ok.Tie as tie
+use Rattle.contents.proofs.alarms_ok.Statement.{statement}
+use Rattle.contents.proofs.alarms_ok.Tie as tie
 
 shared-slice-read-result : tie.Need-shared-slice-read-result
 shared-slice-read-result c = search needs

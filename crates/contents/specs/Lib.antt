@@ -1,0 +1,2 @@
+pub mod ClassTests
+pub mod Tests
