@@ -1,0 +1,107 @@
+-- The counter in a live table's bytes.
+use Prim.Native.Nat.{ℕ, _+_, _*_, _<_}
+use native.Mathlib.Omega.{arith}
+use mathlib.Core.Path.{_≡_, refl, sym, _∙_, ap}
+use mathlib.Core.Bool.{Bool, true}
+use mathlib.Core.Option.{some}
+use mathlib.Core.List.{List, [], _∷_, _++_}
+use lib.ListN.{length, take, set}
+use lib.Seq.{set-split}
+use Rattle.rules.specs.Bytes.{byte, number, number-from, fill, laid}
+use Rattle.rules.specs.Maps.{_and_, Map, find, keys, among}
+use Rattle.rules.specs.Catalogue.{Catalogue, class, known, size-of, stored-numbers, leader, key, ont-data}
+use Rattle.rules.specs.State.{Contents, Entry, Table, entries, entry, contents, content, counter, with-counter}
+use Rattle.rules.specs.Messages.{next-number}
+use Rattle.rules.specs.Commands.{move-counter}
+use Rattle.rules.specs.WellFormed.{WellFormed}
+use Rattle.rules.specs.Walks.{frozen}
+use Rattle.rules.proofs.Laws.{find-some, has-among}
+use Rattle.rules.proofs.Standing.{standing, class-2-known}
+use Rattle.store.specs.Layout.{entry-bytes, code-table}
+use Rattle.store.proofs.ContentsBack.{legal-keys}
+use Rattle.kept.proofs.Tables.{LegalEntry, LegalLive, open-table, frozen-legal}
+use Rattle.kept.proofs.Holds.{find-in-automatic, entry-legal}
+use Rattle.table.specs.Spots.{live-bytes, inside, offset, spot-among, spot}
+use Rattle.table.proofs.TableLaid.{Shape, shape-of, write-laid}
+use Rattle.table.proofs.TableRead.{InEntry, in-entry}
+use Rattle.catalogue.specs.CatOf.{cat-of}
+use Rattle.catalogue.specs.Computing.{computing-tables}
+use Rattle.catalogue.proofs.ClassLaws.{in-either, class-2}
+use Rattle.catalogue.proofs.ProductLaws.{well-formed-of, fits-of}
+use Rattle.instances.specs.Live.{Holding}
+
+-- a byte stored in front
+pub put-in-front : (b : List ℕ) (n m : ℕ) → 0 < length b → m ≡ n → set b 0 m ≡ laid 0 (n ∷ []) b
+unfolding laid
+put-in-front b n m h e = rw e (set-split b 0 n h)
+
+one-number : (x : List ℕ) → number (take 1 x) ≡ byte x 0
+unfolding number-from
+one-number [] = refl
+one-number (a ∷ x) = omega arith
+
+first-of-filled : (x y : List ℕ) → byte (fill 1 x ++ y) 0 ≡ byte x 0
+first-of-filled [] y = refl
+first-of-filled (a ∷ x) y = refl
+
+module _ (l : Bool) (t : Table) (h : LegalLive (cat-of l) (well-formed-of l) t) where
+  abbrev cat : Catalogue
+  cat = cat-of l
+
+  abbrev wf : WellFormed cat
+  wf = well-formed-of l
+
+  -- class 2's attribute 1 is all that it stores
+  is-stored-there : among 1 (stored-numbers (class cat ont-data)) ≡ true
+  is-stored-there = rw (class-2 l) (unfold computing-tables in refl)
+
+  one-byte-long : size-of (class cat ont-data) 1 ≡ 1
+  one-byte-long = rw (class-2 l) (unfold computing-tables in refl)
+
+  at-its-start : offset (size-of (class cat ont-data)) (stored-numbers (class cat ont-data)) 1 ≡ 0
+  at-its-start = rw (class-2 l) (unfold computing-tables in refl)
+
+  leads : leader cat ont-data ≡ ont-data
+  leads = rw (wf .class-2-has-instance-0-alone) refl
+
+  in-front : inside cat ont-data ≡ 0
+  in-front = in-either (λ cat. inside cat ont-data ≡ 0) l (unfold computing-tables in refl) (unfold computing-tables in refl)
+
+  its-spot : spot cat t ont-data 0 ≡ some 0
+  unfolding spot-among _and_
+  its-spot = rw (leads, wf .class-2-has-instance-0-alone) refl
+
+  -- the byte in front is the counter
+  pub counter-written : (n : ℕ) → live-bytes (with-counter cat n t) ≡ laid 0 (n ∷ []) (live-bytes t)
+  unfolding with-counter
+  counter-written n =
+      let e = write-laid cat wf (fits-of l) t h ont-data 0 1 (n ∷ []) (omega arith) is-stored-there (sym one-byte-long) 0 (class-2-known cat wf) its-spot in
+      e ∙ ap (λ (o : ℕ). laid (0 + o) (n ∷ []) (live-bytes t)) at-its-start
+
+  -- and shows it
+  pub counter-shown : counter cat t ≡ byte (live-bytes t) 0
+  unfolding counter contents content entry find live-bytes keys
+  counter-shown =
+      let k : ℕ = key ont-data 0 in
+      let sh : Shape cat (t .automatic) = shape-of cat (t .automatic) (h .automatic-keys) in
+      let e : Entry = sh .first in
+      let found : find k (entries t) ≡ some e = find-in-automatic k (t .automatic) (t .created) e (ap (λ (m : Map Entry). find k m) (sh .is)) in
+      let le : LegalEntry cat k e = entry-legal cat wf t h k e found in
+      let ie : InEntry cat wf (fits-of l) (frozen t) (frozen-legal cat wf t h) (0 ∷ []) refl ont-data 0 (omega arith) e =
+      in-entry cat wf (fits-of l) (frozen t) (frozen-legal cat wf t h) (0 ∷ []) refl ont-data 0 (omega arith) k e (sym leads) (class-2-known cat wf) le in
+      let r : Contents = ie .its-contents in
+      let f = find-some 1 r (has-among 1 r ∙ ap (among 1) (legal-keys cat (class cat ont-data) r (ie .legal)) ∙ is-stored-there) in
+      let shown : take 1 (entry-bytes e) ≡ f .0 = rw (at-its-start, one-byte-long, in-front) at (ie .shown 1 (f .0) (f .1)) in
+      rw (leads, found, ie .found, f .1, ← shown) (one-number (entry-bytes e) ∙ sym (first-of-filled (entry-bytes e) (code-table (frozen t))))
+
+-- in the bytes of a live table of a product
+module _ (l : Bool) (b : List ℕ) (t : Table) (q : Holding (cat-of l) b t) where
+  opened : LegalLive (cat-of l) (well-formed-of l) t
+  opened = open-table (cat-of l) (well-formed-of l) (standing (cat-of l) (well-formed-of l)) t (q .legal)
+
+  pub counter-set : (n : ℕ) → live-bytes (with-counter (cat-of l) n t) ≡ laid 0 (n ∷ []) b
+  counter-set n = counter-written l t opened n ∙ ap (laid 0 (n ∷ [])) (sym (q .is))
+
+  pub counter-moved : live-bytes (move-counter (cat-of l) t) ≡ laid 0 (next-number (byte b 0) ∷ []) b
+  counter-moved = counter-set (next-number (counter (cat-of l) t))
+      ∙ ap (λ (n : ℕ). laid 0 (next-number n ∷ []) b) (counter-shown l t opened ∙ ap (λ (x : List ℕ). byte x 0) (sym (q .is)))

@@ -1,0 +1,1 @@
+// Which alarms stay when created instances go: see proofs/. This crate has no code of its own.
