@@ -1,0 +1,4 @@
+pub mod Looking
+pub mod Verdicts
+pub mod Marked
+pub mod Held

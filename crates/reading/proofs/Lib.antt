@@ -1,0 +1,5 @@
+pub mod Sources
+pub mod Items
+pub mod Written
+pub mod Packed
+pub mod ValuesRead
