@@ -1,0 +1,64 @@
+-- A Set of an instance that is there: what refuses it, and what it writes, over the bytes of a live table.
+use Prim.Native.Nat.{ℕ, _+_}
+use mathlib.Core.Path.{_≡_}
+use mathlib.Core.Bool.{Bool, not, cond}
+use mathlib.Core.Option.{Option, none, some}
+use mathlib.Core.List.{List, [], _∷_, _++_}
+use lib.ListN.{take, drop}
+use lib.Dec.{eqb, ltb}
+use Rattle.rules.specs.Maps.{_and_, given, empty, first-that-applies}
+use Rattle.rules.specs.Bytes.{byte, two, bytes, fill, laid}
+use Rattle.rules.specs.Masks.{named, mask, total}
+use Rattle.rules.specs.Catalogue.{Class, size-of, ont-data}
+use Rattle.rules.specs.Messages.{done, bad-parameter, attribute-failed, next-number}
+use Rattle.rules.specs.Commands.{cut, unsupported, unwritable}
+use Rattle.store.specs.Layout.{table-length}
+use Rattle.catalogue.specs.CatOf.{cat-of, class-for}
+use Rattle.judging.specs.Judges.{is-in, bad-among}
+use Rattle.laying.specs.Lays.{laid-values}
+use Rattle.setting.specs.declared.SetRefusal.{SetRefusal}
+use Rattle.setting.specs.declared.SetRefusal.the-variants.{Accepted, Result, Failed, Bad}
+
+-- the reply contents that the code's answer about a refusal stands for
+abbrev pub set-contents : SetRefusal → Option (List ℕ)
+set-contents Accepted = none
+set-contents (Result r) = some (r ∷ [])
+set-contents (Failed missing fixed) = some (attribute-failed ∷ bytes 2 missing ++ bytes 2 fixed)
+set-contents (Bad m) = some (bad-parameter ∷ 0 ∷ 0 ∷ bytes 2 m)
+
+-- the results of a Set with mask m, where the contents of these attributes are bad
+unfoldable pub set-lines : Class → ℕ → List ℕ → List (Bool × List ℕ)
+set-lines k m bad =
+    (eqb m 0, bad-parameter ∷ [])
+    ∷ (
+      not (empty (unsupported k (named m)) and empty (unwritable k (named m))),
+      attribute-failed ∷ bytes 2 (mask (unsupported k (named m))) ++ bytes 2 (mask (unwritable k (named m))),
+    )
+    ∷ (ltb 30 (total (size-of k) (named m)), bad-parameter ∷ [])
+    ∷ (not (empty bad), bad-parameter ∷ 0 ∷ 0 ∷ bytes 2 (mask bad))
+    ∷ []
+
+-- what refuses a Set with mask m and values v of the instance of class c whose contents begin at a place of b
+unfoldable pub refusing : Bool → ℕ → ℕ → ℕ → List ℕ → List ℕ → Option (List ℕ)
+refusing large c at m v b =
+    first-that-applies (set-lines (class-for large c) m (bad-among (is-in (cat-of large) b) (class-for large c) b at (named m) v))
+
+-- the counter moves on, but not by a Set of class 2
+unfoldable pub counted-by : ℕ → List ℕ → List ℕ
+counted-by c b = cond (eqb c ont-data) b (laid 0 (next-number (byte b 0) ∷ []) b)
+
+-- what it makes of b
+unfoldable pub written : Bool → ℕ → ℕ → ℕ → List ℕ → List ℕ → List ℕ
+written large c at m v b = counted-by c (laid-values (class-for large c) at (cut (size-of (class-for large c)) (named m) v) b)
+
+-- the live table in a store, and the values behind the mask in a Set's contents
+abbrev pub live-in : List ℕ → List ℕ
+live-in store = take (1 + table-length) (drop 100 store)
+
+abbrev pub values-in : List ℕ → List ℕ
+values-in v = take 30 (drop 2 v)
+
+-- a store and a reply's contents after a Set with contents v of the instance of class c whose contents begin at a place of the live table
+pub record SetAt (large : Bool) (c at : ℕ) (v before after out : List ℕ) : Type 0 where
+  pub store : after ≡ given (refusing large c at (two v 0) (values-in v) (live-in before)) (laid 100 (written large c at (two v 0) (values-in v) (live-in before)) before) (λ r. before)
+  pub reply : out ≡ fill 32 (given (refusing large c at (two v 0) (values-in v) (live-in before)) (done ∷ []) (λ r. r))
