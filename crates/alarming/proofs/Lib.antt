@@ -1,0 +1,4 @@
+pub mod AlarmBytes
+pub mod Frozen
+pub mod Shown
+pub mod Walked

@@ -1,0 +1,3 @@
+pub mod Freezing
+pub mod Showing
+pub mod Uploads
