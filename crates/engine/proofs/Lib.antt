@@ -1,0 +1,4 @@
+pub mod Entered
+pub mod Repeated
+pub mod Replied
+pub mod OneOutcome

@@ -1,0 +1,94 @@
+use Rattle.soundness.proofs.Known.{known-bytes}
+use Rattle.engine.proofs.Replied.{begun-as, answering-as, contents-long, begun-blank, answered-and-remembered}
+use borrow.Author.Needs.{needs}
+use Rattle.engine.proofs.answer_anew.Statement.{statement}
+use Rattle.engine.proofs.answer_anew.Tie as tie
+use Rattle.engine.proofs.answer_anew.Reads as reads
+use Rattle.engine.proofs.answer_anew.Lts as lts
+use Rattle.commands.proofs.perform.Reads as perform-reads
+use Rattle.frame.proofs.begin.Reads as begin-reads
+use Rattle.memory.proofs.remember.Reads as remember-reads
+use Rattle.octets.proofs.number_at.Reads as number-at-reads
+
+shared-slice-read-kind : tie.Need-shared-slice-read-kind
+shared-slice-read-kind c = search needs
+
+number-at-requires : tie.Need-number-at-requires
+number-at-requires c κs = search needs
+
+number-at-requires-2 : tie.Need-number-at-requires-2
+number-at-requires-2 c κs = search needs
+
+number-at-requires-3 : tie.Need-number-at-requires-3
+number-at-requires-3 c κs = search needs
+
+add-begin : tie.Need-add-begin
+add-begin c = search needs
+
+begin-requires : tie.Need-begin-requires
+begin-requires c κs = search needs
+
+sub-perform : tie.Need-sub-perform
+sub-perform c = search needs
+
+part-perform-start : tie.Need-part-perform-start
+part-perform-start c = search needs
+
+part-perform-end : tie.Need-part-perform-end
+part-perform-end c = search needs
+
+sub-perform-2 : tie.Need-sub-perform-2
+sub-perform-2 c = search needs
+
+part-perform-start-2 : tie.Need-part-perform-start-2
+part-perform-start-2 c = search needs
+
+part-perform-end-2 : tie.Need-part-perform-end-2
+part-perform-end-2 c = search needs
+
+perform-requires : tie.Need-perform-requires
+perform-requires c κs =
+    let a = c .before .before .before .before .before .before .before .before .before .before .before .before .before .before .args in
+    let pre = c .before .before .before .before .before .before .before .before .before .before .before .before .before .before .pre in
+    let bs = known-bytes (a .m .now) (λ i. c .before .before .before .before .before .before .before .before .before .before .before .before .shared-slice-known .given i .fits) in
+    let x = begun-as (a .large) (a .store .now) (a .m .now) (a .reply .now) (pre .0) bs (pre .1) (c .before .before .before .before .before .begin .last .0) _ _ _ (c .before .before .before .before .before .before .number-at3 .ensures) (c .before .before .before .before .before .before .before .before .before .number-at .ensures) (c .before .before .before .before .before .before .before .before .number-at2 .ensures) (c .before .before .before .before .before .begin .ensures) in
+    (pre .0, contents-long (a .large) (a .store .now) (a .m .now) (a .reply .now) (pre .0) bs (pre .1), begun-blank (a .large) (a .store .now) (a .m .now) (a .reply .now) (pre .0) bs (pre .1) _ x)
+
+remember-requires : tie.Need-remember-requires
+remember-requires c κs = search needs
+
+same-length : tie.Need-same-length
+same-length c = search needs
+
+same-length-2 : tie.Need-same-length-2
+same-length-2 c = search needs
+
+returns : tie.Need-returns
+returns c =
+    let a = c .before .before .before .before .before .before .before .before .before .before .before .before .before .before .before .before .before .before .before .before .before .before .before .before .args in
+    let pre = c .before .before .before .before .before .before .before .before .before .before .before .before .before .before .before .before .before .before .before .before .before .before .before .before .pre in
+    let bs = known-bytes (a .m .now) (λ i. c .before .before .before .before .before .before .before .before .before .before .before .before .before .before .before .before .before .before .before .before .before .before .shared-slice-known .given i .fits) in
+    let x = begun-as (a .large) (a .store .now) (a .m .now) (a .reply .now) (pre .0) bs (pre .1) (c .before .before .before .before .before .before .before .before .before .before .before .before .before .before .before .begin .last .0) _ _ _ (c .before .before .before .before .before .before .before .before .before .before .before .before .before .before .before .before .number-at3 .ensures) (c .before .before .before .before .before .before .before .before .before .before .before .before .before .before .before .before .before .before .before .number-at .ensures) (c .before .before .before .before .before .before .before .before .before .before .before .before .before .before .before .before .before .before .number-at2 .ensures) (c .before .before .before .before .before .before .before .before .before .before .before .before .before .before .before .begin .ensures) in
+    answered-and-remembered (a .large) (a .store .now) (a .m .now) (a .reply .now) (pre .0) bs (pre .1) _ _ _ _ x (answering-as (a .large) (a .store .now) (a .m .now) (a .reply .now) (pre .0) bs (pre .1) _ _ _ _ (c .before .before .before .before .before .before .before .before .before .before .before .before .before .before .before .before .before .before .before .number-at .ensures) (c .before .before .before .before .before .before .before .before .before .before .before .before .before .before .before .before .before .before .number-at2 .ensures) (c .before .before .before .before .before .before .before .before .before .perform .ensures)) (c .before .before .remember .ensures)
+
+pub answer-anew-spec : {M : Type 1} → statement M
+answer-anew-spec =
+    tie.close
+    (tie.spec
+    shared-slice-read-kind
+    number-at-requires
+    number-at-requires-2
+    number-at-requires-3
+    add-begin
+    begin-requires
+    sub-perform
+    part-perform-start
+    part-perform-end
+    sub-perform-2
+    part-perform-start-2
+    part-perform-end-2
+    perform-requires
+    remember-requires
+    same-length
+    same-length-2
+    returns)
