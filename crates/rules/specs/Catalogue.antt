@@ -1,11 +1,10 @@
 -- What a product is, as data: its classes, and of each its attributes. Everything that is known of a class stands here;
 -- the rules ask the catalogue and never name a class but class 2, the ONT data.
 use Prim.Native.Nat.{ℕ, _+_, _*_}
-use mathlib.Core.Bool.{Bool, true, false, not, cond}
-use mathlib.Core.Option.{Option, none, some}
-use mathlib.Core.List.{List, [], _∷_}
+use mathlib.Core.Bool.{Bool, true, false, not}
+use mathlib.Core.List.{List, []}
 use lib.Dec.{eqb}
-use Rattle.rules.specs.Maps.{_and_, Map, given, find, has, keys, keep, among}
+use Rattle.rules.specs.Maps.{_and_, Map, given, find, has, keys, keep}
 
 -- what a rule of legal content says: legal; not legal; or legal if this instance (class, number) is there
 pub data Verdict : Type 0 where

@@ -1,15 +1,15 @@
 -- Create, Delete, Set, Get and MIB reset: the commands whose reply has a result.
-use Prim.Native.Nat.{ℕ, zero, suc, _+_, _*_, _/_, _%_}
-use mathlib.Core.Bool.{Bool, true, false, not, cond}
-use mathlib.Core.Option.{Option, none, some}
+use Prim.Native.Nat.{ℕ}
+use mathlib.Core.Bool.{Bool, not, cond}
+use mathlib.Core.Option.{none}
 use mathlib.Core.List.{List, [], _∷_, _++_}
-use lib.ListN.{length, take, drop, getD, replicate}
+use lib.ListN.{length, take, drop, replicate}
 use lib.Dec.{eqb, ltb, leb}
-use Rattle.rules.specs.Maps.{_and_, Map, given, find, has, keys, keep, put, remove, each, empty, same, those, put-if}
-use Rattle.rules.specs.Bytes.{byte, two, bytes}
+use Rattle.rules.specs.Maps.{_and_, Map, keys, keep, put, remove, each, empty, same, those, put-if}
+use Rattle.rules.specs.Bytes.{two, bytes}
 use Rattle.rules.specs.Masks.{named, mask, total}
-use Rattle.rules.specs.Catalogue.{First, constant, copied, Source, stored, of-creator, count-of, Attribute, Class, Catalogue, class, attribute, supported, size-of, is-stored, stored-numbers, carried-numbers, is-created, leader, family, key, ont-data}
-use Rattle.rules.specs.State.{Contents, Entry, Table, Alarms, State, class-of, number-of, holds, contents, content, read, counter, overwrite, change, with-counter, with-table}
+use Rattle.rules.specs.Catalogue.{constant, copied, Source, stored, of-creator, count-of, Class, Catalogue, class, attribute, supported, size-of, is-stored, carried-numbers, is-created, leader, family, key, ont-data}
+use Rattle.rules.specs.State.{Contents, Entry, Table, State, class-of, number-of, holds, contents, content, read, counter, overwrite, change, with-counter, with-table}
 use Rattle.rules.specs.Legal.{legal-content}
 use Rattle.rules.specs.Messages.{done, no-place, bad-parameter, unknown-instance, instance-exists, attribute-failed, next-number, Answer, unless-refused}
 

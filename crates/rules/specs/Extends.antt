@@ -1,12 +1,12 @@
 -- When a second catalogue extends a first: the sentences of document 01's paragraph, a condition each.
-use Prim.Native.Nat.{ℕ, zero, suc, _+_}
+use Prim.Native.Nat.{ℕ}
 use mathlib.Core.Path.{_≡_}
-use mathlib.Core.Bool.{Bool, true, false, not, cond}
-use mathlib.Core.List.{List, [], _∷_, _++_}
+use mathlib.Core.Bool.{Bool, true, false, not}
+use mathlib.Core.List.{List, _++_}
 use lib.ListN.{length, replicate}
 use Rattle.rules.specs.Bytes.{are-bytes}
 use Rattle.rules.specs.Maps.{_and_, among, all, those}
-use Rattle.rules.specs.Catalogue.{Verdict, fine, bad, asks, Attribute, Creation, created, automatic, comes-with, Class, Catalogue, class, known, attribute, supported, size-of, carried-numbers, is-fixed, automatic-numbers}
+use Rattle.rules.specs.Catalogue.{Verdict, fine, Attribute, Creation, created, automatic, comes-with, Class, Catalogue, class, known, attribute, supported, size-of, carried-numbers, is-fixed, automatic-numbers}
 use Rattle.rules.specs.State.{State, holds}
 use Rattle.rules.specs.Legal.{passes}
 use Rattle.rules.specs.Run.{Call, message, attribute-report, alarm-report}

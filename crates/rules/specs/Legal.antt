@@ -1,11 +1,10 @@
 -- When a content is legal, and which states there are.
-use Prim.Native.Nat.{ℕ, zero, suc, _+_, _*_, _-_, _/_, _%_}
+use Prim.Native.Nat.{ℕ, suc, _/_}
 use mathlib.Core.Bool.{Bool, true, false, not, cond}
-use mathlib.Core.Option.{Option, none, some}
-use mathlib.Core.List.{List, [], _∷_, _++_, map}
-use lib.ListN.{length, take, drop, getD, replicate}
+use mathlib.Core.List.{List, [], _∷_, map}
+use lib.ListN.{length}
 use lib.Dec.{eqb, ltb, leb}
-use Rattle.rules.specs.Maps.{_and_, _or_, Map, given, find, has, keys, keep, every, rising, among, distinct, all, same, gather, is-some, first-that-applies}
+use Rattle.rules.specs.Maps.{_and_, _or_, Map, given, keys, keep, every, rising, among, distinct, all, same, gather, is-some, first-that-applies}
 use Rattle.rules.specs.Bytes.{byte, two, is-byte, are-bytes}
 use Rattle.rules.specs.Catalogue.{Verdict, fine, bad, asks, Creation, created, automatic, comes-with, Class, Catalogue, class, known, attribute, size-of, stored-numbers, is-fixed, is-created, automatic-numbers, leader, family, key, ont-data}
 use Rattle.rules.specs.State.{Contents, Entry, Table, Alarms, Memory, State, class-of, number-of, holds, content}

@@ -1,6 +1,6 @@
 -- Tables whose keys are numbers. One kind of table serves the classes of a catalogue, the attributes of a class, the instances
 -- of a product, the contents of an instance and the alarm bitmaps, so that each law about them is proved once.
-use Prim.Native.Nat.{ℕ, zero, suc, _+_}
+use Prim.Native.Nat.{ℕ, zero, suc}
 use mathlib.Core.Bool.{Bool, true, false, not, _&&_, _||_, cond}
 use mathlib.Core.Option.{Option, none, some}
 use mathlib.Core.List.{List, [], _∷_, _++_}

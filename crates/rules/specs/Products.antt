@@ -1,7 +1,7 @@
 -- The two catalogues of document 01, Small and Large.
-use Prim.Native.Nat.{ℕ, _+_}
+use Prim.Native.Nat.{ℕ}
 use mathlib.Core.Bool.{Bool, true, false, cond}
-use mathlib.Core.List.{List, [], _∷_, _++_}
+use mathlib.Core.List.{List, [], _∷_}
 use lib.ListN.{replicate}
 use lib.Dec.{eqb, leb}
 use Rattle.rules.specs.Maps.{_and_, Map, among}

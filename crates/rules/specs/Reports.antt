@@ -1,15 +1,14 @@
 -- Local reports: one L attribute is written, or one alarm is raised or cleared.
-use Prim.Native.Nat.{ℕ, zero, suc, _+_, _*_, _/_, _%_}
-use mathlib.Core.Bool.{Bool, true, false, not, cond}
-use mathlib.Core.Option.{Option, none, some}
+use Prim.Native.Nat.{ℕ}
+use mathlib.Core.Bool.{Bool, false, not, cond}
 use mathlib.Core.List.{List, [], _∷_, _++_}
-use lib.ListN.{length, take, drop, getD, set, replicate}
+use lib.ListN.{length, getD, set}
 use lib.Dec.{eqb}
 use Rattle.rules.specs.Maps.{_and_, _or_, Map, given, put, remove, among, same, first-that-applies}
 use Rattle.rules.specs.Bytes.{bytes}
 use Rattle.rules.specs.Masks.{mask}
-use Rattle.rules.specs.Catalogue.{Attribute, Class, Catalogue, class, attribute, key}
-use Rattle.rules.specs.State.{Table, Alarms, State, holds, contents, content, alarms-of, overwrite, change, with-table}
+use Rattle.rules.specs.Catalogue.{Attribute, Catalogue, class, attribute, key}
+use Rattle.rules.specs.State.{Alarms, State, holds, contents, content, alarms-of, overwrite, change, with-table}
 use Rattle.rules.specs.Legal.{legal-content, some-on}
 use Rattle.rules.specs.Messages.{next-number, notification, alarm-type, avc-type}
 use Rattle.rules.specs.Walks.{bitmap}

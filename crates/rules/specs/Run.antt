@@ -1,20 +1,20 @@
 -- A call and its one outcome; power-on; a run of calls.
-use Prim.Native.Nat.{ℕ, zero, suc, _+_, _*_, _/_, _%_}
-use mathlib.Core.Bool.{Bool, true, false, not, cond}
+use Prim.Native.Nat.{ℕ}
+use mathlib.Core.Bool.{Bool, not, cond}
 use mathlib.Core.Option.{Option, none, some}
-use mathlib.Core.List.{List, [], _∷_, _++_, map}
-use lib.ListN.{length, take, drop, getD}
+use mathlib.Core.List.{List, [], _∷_, map}
+use lib.ListN.{take}
 use lib.Dec.{eqb, ltb}
-use Rattle.rules.specs.Maps.{_and_, _or_, Map, given, has, among, same, first-that-applies, computing-maps}
+use Rattle.rules.specs.Maps.{_and_, _or_, given, among, same, first-that-applies, computing-maps}
 use Rattle.rules.specs.Bytes.{computing-bytes}
 use Rattle.rules.specs.Masks.{computing-masks}
-use Rattle.rules.specs.Catalogue.{Class, Catalogue, class, known, key, ont-data, computing-catalogue}
-use Rattle.rules.specs.State.{Entry, Table, Memory, State, class-of, computing-state}
+use Rattle.rules.specs.Catalogue.{Catalogue, class, known, key, ont-data, computing-catalogue}
+use Rattle.rules.specs.State.{Table, Memory, State, class-of, computing-state}
 use Rattle.rules.specs.Legal.{automatic-keys, computing-legal}
 use Rattle.rules.specs.Messages.{message-number, class-in, instance-in, contents-in, message-drops, with-result, without-result, create-number, delete-number, set-number, get-number, all-alarms-number, alarms-next-number, upload-number, upload-next-number, reset-number, not-supported, unknown-class, reply-to, Answer, unless-refused, computing-messages}
 use Rattle.rules.specs.Commands.{new-entry, create, delete, set, get, reset, computing-commands}
 use Rattle.rules.specs.Walks.{upload, upload-next, all-alarms, alarms-next, computing-walks}
-use Rattle.rules.specs.Reports.{Outcome, dropped, quiet, answered, unless-dropped, report-attribute, report-alarm, computing-reports}
+use Rattle.rules.specs.Reports.{Outcome, answered, unless-dropped, report-attribute, report-alarm, computing-reports}
 
 -- ---- commands
 

@@ -1,13 +1,13 @@
 -- The state of a product, and how it is read.
-use Prim.Native.Nat.{ℕ, zero, suc, _+_, _*_, _/_, _%_}
-use mathlib.Core.Bool.{Bool, true, false, not, cond}
-use mathlib.Core.Option.{Option, none, some}
+use Prim.Native.Nat.{ℕ, _+_, _/_, _%_}
+use mathlib.Core.Bool.{Bool, false, cond}
+use mathlib.Core.Option.{Option}
 use mathlib.Core.List.{List, [], _∷_, _++_}
-use lib.ListN.{getD, replicate}
+use lib.ListN.{replicate}
 use lib.Dec.{eqb}
-use Rattle.rules.specs.Maps.{_and_, Map, given, find, has, each, keep, put-if, at-key}
+use Rattle.rules.specs.Maps.{_and_, Map, given, find, has, each, at-key}
 use Rattle.rules.specs.Bytes.{number, bytes}
-use Rattle.rules.specs.Catalogue.{Source, stored, of-creator, count-of, Attribute, Class, Catalogue, class, attribute, leader, key, ont-data}
+use Rattle.rules.specs.Catalogue.{Source, stored, of-creator, count-of, Catalogue, class, attribute, leader, key, ont-data}
 
 abbrev pub class-of : ℕ → ℕ
 class-of k = k / 65536

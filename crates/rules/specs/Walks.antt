@@ -1,15 +1,15 @@
 -- MIB upload and Get all alarms, each with its Next: they show a copy that was frozen when they were asked for.
-use Prim.Native.Nat.{ℕ, zero, suc, _+_, _*_, _/_, _%_}
-use mathlib.Core.Bool.{Bool, true, false, not, cond}
-use mathlib.Core.Option.{Option, none, some}
+use Prim.Native.Nat.{ℕ, _+_}
+use mathlib.Core.Bool.{not, cond}
+use mathlib.Core.Option.{some}
 use mathlib.Core.List.{List, [], _∷_, _++_, map}
-use lib.ListN.{length, take, drop, getD}
+use lib.ListN.{length}
 use lib.Dec.{eqb, leb}
-use Rattle.rules.specs.Maps.{_and_, Map, given, find, has, keys, keep, gather, nth, put-if}
-use Rattle.rules.specs.Bytes.{byte, two, bytes, bit-bytes}
+use Rattle.rules.specs.Maps.{_and_, given, keys, keep, gather, nth, put-if}
+use Rattle.rules.specs.Bytes.{two, bytes, bit-bytes}
 use Rattle.rules.specs.Masks.{mask, total}
-use Rattle.rules.specs.Catalogue.{Class, Catalogue, class, size-of, lead, ont-data}
-use Rattle.rules.specs.State.{Entry, Table, Alarms, State, class-of, number-of, entries}
+use Rattle.rules.specs.Catalogue.{Class, Catalogue, size-of, lead, ont-data}
+use Rattle.rules.specs.State.{Table, Alarms, State, class-of, number-of, entries}
 use Rattle.rules.specs.Commands.{values}
 use Rattle.rules.specs.Messages.{Answer}
 

@@ -1,14 +1,14 @@
 -- What holds in every catalogue: the sentences of document 01's paragraph, a condition each.
-use Prim.Native.Nat.{ℕ, zero, suc, _+_, _*_, _^_, _≤_, _<_}
+use Prim.Native.Nat.{ℕ, _+_, _^_, _≤_}
 use mathlib.Core.Path.{_≡_}
-use mathlib.Core.Bool.{Bool, true, false, not, cond}
-use mathlib.Core.List.{List, [], _∷_, _++_}
-use lib.ListN.{length, replicate}
+use mathlib.Core.Bool.{Bool, true, false, not}
+use mathlib.Core.List.{List, [], _∷_}
+use lib.ListN.{length}
 use lib.Dec.{eqb, ltb, leb}
-use Rattle.rules.specs.Maps.{_and_, _or_, Map, has, keys, every, rising, among, all, empty}
+use Rattle.rules.specs.Maps.{_and_, _or_, Map, keys, every, rising, among, all, empty}
 use Rattle.rules.specs.Bytes.{are-bytes}
 use Rattle.rules.specs.Masks.{total}
-use Rattle.rules.specs.Catalogue.{Verdict, fine, bad, asks, First, constant, copied, Source, stored, of-creator, count-of, Attribute, Creation, created, automatic, comes-with, Class, Catalogue, class, attribute, supported, size-of, is-stored, carried-numbers, is-created, automatic-numbers, leader, ont-data}
+use Rattle.rules.specs.Catalogue.{Verdict, fine, bad, asks, constant, copied, Source, stored, of-creator, count-of, Attribute, Creation, created, automatic, comes-with, Class, Catalogue, class, attribute, supported, size-of, is-stored, carried-numbers, is-created, automatic-numbers, leader, ont-data}
 use Rattle.rules.specs.State.{Table, Alarms}
 use Rattle.rules.specs.Legal.{passes, there-or-gone, legal-frozen, legal-walk}
 use Rattle.rules.specs.Messages.{create-number, delete-number, reset-number}

@@ -1,10 +1,10 @@
 -- What bytes say. Every list of bytes is read as some state; a store is sound if that state is legal and encodes to the same bytes.
-use Prim.Native.Nat.{ℕ, zero, suc, _+_, _*_}
-use mathlib.Core.Bool.{Bool, true, false, not, cond}
+use Prim.Native.Nat.{ℕ, zero, suc, _+_}
+use mathlib.Core.Bool.{Bool, false, cond}
 use mathlib.Core.Option.{Option, none, some}
 use mathlib.Core.List.{List, [], _∷_, _++_}
 use lib.ListN.{length, take, drop, getD, replicate}
-use lib.Dec.{eqb, ltb, leb}
+use lib.Dec.{eqb, ltb}
 use Rattle.rules.specs.Maps.{_and_, Map, given, find, same, put-if, is-some}
 use Rattle.rules.specs.Bytes.{byte, two, bits}
 use Rattle.rules.specs.Catalogue.{Class, Catalogue, size-of, stored-numbers, family, key, ont-data}
@@ -13,7 +13,7 @@ use Rattle.rules.specs.Legal.{automatic-keys, some-on, legal-state}
 use Rattle.rules.specs.Commands.{cut}
 use Rattle.rules.specs.Run.{store-length}
 use Rattle.rules.specs.Products.{Products}
-use Rattle.store.specs.Layout.{slot-count, slot-width, slots-length, place-length, part-lengths, contents-width, encode}
+use Rattle.store.specs.Layout.{slot-width, slots-length, place-length, part-lengths, contents-width, encode}
 
 -- ---- tables
 

@@ -1,12 +1,11 @@
 -- What a call does to the bytes that are lent to it: its outcome, the store and the reply buffer, for every input.
-use Prim.Native.Nat.{ℕ, zero, suc, _+_}
-use mathlib.Core.Bool.{Bool, true, false, cond}
+use Prim.Native.Nat.{ℕ}
+use mathlib.Core.Bool.{cond}
 use mathlib.Core.Option.{Option, none, some}
-use mathlib.Core.List.{List, [], _∷_, _++_}
-use lib.ListN.{length, take, drop}
+use mathlib.Core.List.{List, _++_}
+use lib.ListN.{length, drop}
 use lib.Dec.{ltb}
-use Rattle.rules.specs.Maps.{given, find, computing-maps}
-use Rattle.rules.specs.Catalogue.{Catalogue}
+use Rattle.rules.specs.Maps.{given, find}
 use Rattle.rules.specs.State.{State}
 use Rattle.rules.specs.Reports.{Outcome, dropped, quiet, answered}
 use Rattle.rules.specs.Run.{Call, store-length, reply-length, taken, fresh, computing-rules}

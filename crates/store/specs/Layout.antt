@@ -1,18 +1,17 @@
 -- A state as bytes: eight parts of fixed length, so that one state has one encoding.
-use Prim.Native.Nat.{ℕ, zero, suc, _+_, _*_, _≤_}
-use mathlib.Core.Path.{_≡_}
-use mathlib.Core.Bool.{Bool, true, false, not, cond}
+use Prim.Native.Nat.{ℕ, _+_, _*_}
+use mathlib.Core.Bool.{Bool, not, cond}
 use mathlib.Core.Option.{Option, none, some}
 use mathlib.Core.List.{List, [], _∷_, _++_, map}
-use lib.ListN.{length, take, drop, getD, replicate}
+use lib.ListN.{length, take, replicate}
 use lib.Dec.{eqb, ltb, leb}
 use Rattle.rules.specs.Maps.{_and_, _or_, Map, every, gather, all, empty}
 use Rattle.rules.specs.Bytes.{bytes, fill, bits-from}
 use Rattle.rules.specs.Masks.{total}
-use Rattle.rules.specs.Catalogue.{Creation, Class, Catalogue, class, size-of, stored-numbers, is-created, family, key, ont-data}
+use Rattle.rules.specs.Catalogue.{Creation, Class, Catalogue, size-of, stored-numbers, is-created, family, key, ont-data}
 use Rattle.rules.specs.State.{Contents, Entry, Table, Alarms, Memory, State, class-of, number-of, entry, alarms-of}
 use Rattle.rules.specs.Legal.{automatic-keys}
-use Rattle.rules.specs.WellFormed.{implies, is-companion}
+use Rattle.rules.specs.WellFormed.{is-companion}
 use Rattle.rules.specs.Walks.{frozen}
 
 -- ---- the lengths that decide which catalogues fit: a wider class needs one of them widened, and nothing else
