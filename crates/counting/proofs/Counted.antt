@@ -22,7 +22,8 @@ use Rattle.store.proofs.ContentsBack.{legal-keys}
 use Rattle.kept.proofs.Tables.{LegalEntry, LegalLive, open-table, frozen-legal}
 use Rattle.kept.proofs.Holds.{find-in-automatic, entry-legal}
 use Rattle.table.specs.Spots.{live-bytes, inside, offset, spot-among, spot}
-use Rattle.table.proofs.TableLaid.{Shape, shape-of, write-laid}
+use Rattle.table.proofs.TableLaid.{Shape, shape-of}
+use Rattle.table.proofs.WriteLaid.{write-laid}
 use Rattle.table.proofs.TableRead.{InEntry, in-entry}
 use Rattle.catalogue.specs.CatOf.{cat-of}
 use Rattle.catalogue.specs.Computing.{computing-tables}

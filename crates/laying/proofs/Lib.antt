@@ -1,6 +1,5 @@
 pub mod Turns
 pub mod Puts
 pub mod FirstTurns
-pub mod ChangeLaid
 pub mod Overwritten
 pub mod TableWritten

@@ -31,7 +31,7 @@ use Rattle.table.proofs.StateLaid.{live-length}
 use Rattle.table.proofs.Positions.{position-among, position-small}
 use Rattle.table.proofs.Parted.{part}
 use Rattle.laying.specs.Lays.{laid-values}
-use Rattle.laying.proofs.ChangeLaid.{change-laid}
+use Rattle.table.proofs.ChangeLaid.{change-laid}
 use Rattle.laying.proofs.Overwritten.{Sized, length-laid-values, values-in-part, overwrite-laid}
 
 -- a class's contents are within its family's

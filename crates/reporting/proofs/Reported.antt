@@ -34,7 +34,7 @@ use Rattle.table.specs.Places.{keys-in}
 use Rattle.table.proofs.Parted.{part}
 use Rattle.table.proofs.StateLaid.{live-length}
 use Rattle.table.proofs.PlaceKeys.{live-keys}
-use Rattle.table.proofs.TableLaid.{write-laid}
+use Rattle.table.proofs.WriteLaid.{write-laid}
 use Rattle.judging.specs.Judges.{is-in}
 use Rattle.outcome.specs.declared.Outcome.the-variants.{Answered, Quiet, Dropped}
 use Rattle.outcome.specs.Outcomes.{left-by, leaves}

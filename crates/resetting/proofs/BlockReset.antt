@@ -29,7 +29,8 @@ use Rattle.catalogue.proofs.ClassLaws.{in-either}
 use Rattle.catalogue.proofs.ProductLaws.{well-formed-of, fits-of}
 use Rattle.catalogue.proofs.SlotLaws.{few-slots}
 use Rattle.table.specs.Spots.{live-bytes, spot-among}
-use Rattle.table.proofs.TableLaid.{table-of, in-pieces, Shape, shape-of, write-laid}
+use Rattle.table.proofs.TableLaid.{table-of, in-pieces, Shape, shape-of}
+use Rattle.table.proofs.WriteLaid.{write-laid}
 use Rattle.resetting.specs.Resets.{slots-begun, block-reset}
 use Rattle.resetting.proofs.SlotsReset.{reset-entry, reset-entries, slots-reset}
 

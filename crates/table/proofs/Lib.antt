@@ -4,6 +4,8 @@ pub mod BlocksLaid
 pub mod Parted
 pub mod Positions
 pub mod TableLaid
+pub mod ChangeLaid
+pub mod WriteLaid
 pub mod TableRead
 pub mod BlocksMoved
 pub mod TableMoved
