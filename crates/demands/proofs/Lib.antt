@@ -1,0 +1,2 @@
+pub mod Accident
+pub mod DemandOne
