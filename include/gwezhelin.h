@@ -46,10 +46,11 @@
  *     Two stores have nothing to do with each other.
  *
  * What it needs
- *     No heap, no clock, no thread, no file and no C library, but for what
- *     compilers expect everywhere (memcpy and its kin). No state of its own:
- *     between two calls everything is in the store, so a store may be copied
- *     byte for byte and used from its new address.
+ *     No heap, no clock, no thread, no file and no C library. The compiler
+ *     asks for memcpy, memmove and memset, as it does everywhere; a program
+ *     without a C library brings these three itself.
+ *     Nothing is kept between calls: all that the engine knows is in the
+ *     store, so a store may be copied and used from its new address.
  */
 #ifndef GWEZHELIN_H
 #define GWEZHELIN_H
@@ -81,7 +82,7 @@ extern "C" {
 #define GWZ_DROP_REPLY_ROOM 1     /* the reply's room is under 48 bytes */
 #define GWZ_DROP_STORE 2          /* the store is too short, or its bytes */
                                   /* encode no state of a product */
-#define GWZ_DROP_LENGTH 3         /* the message hasn't 48 bytes */
+#define GWZ_DROP_LENGTH 3         /* the message isn't 48 bytes long */
 #define GWZ_DROP_DEVICE 4         /* byte 3, the device, isn't 0x0A */
 #define GWZ_DROP_TYPE 5           /* byte 2 is no command: its top three bits */
                                   /* aren't 0, 1, 0 */
@@ -101,8 +102,8 @@ extern "C" {
 size_t gwz_store_size(void);
 
 /*
- * Writes the fresh state of a product into the store, whatever it held. Call
- * it once, before the first message or report.
+ * Writes the fresh state of a product into the store, whatever it held. Call it
+ * at every start, before the first message or report.
  *
  * product: GWZ_SMALL or GWZ_LARGE.
  * Returns 0; or 2, the store is too short; or 12, no such product (tried in

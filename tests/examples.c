@@ -184,11 +184,11 @@ static void results_by_number(void)
 static void refused_creates(void)
 {
     power_on(product);
-    command("every content of a 45 bad", CREATE, PROFILE, 1,
+    command("every rule of a 45 broken", CREATE, PROFILE, 1,
             "02 02 02 FFFF 05FF 00FF 03FF", "03 EE00");
     command("a bridge", CREATE, PROFILE, 1, GOOD_BRIDGE, "00");
     command("it exists, and is bad", CREATE, PROFILE, 1, "02", "07");
-    command("every content of a 47 bad", CREATE, PORT, 1,
+    command("every rule of a 47 broken", CREATE, PORT, 1,
             "0002 01 03 0102 0100 0000 02 02 02", "03 AF80");
     command("a pointer to no UNI", CREATE, PORT, 1,
             "0001 01 01 0105 0080 0001 00 00 00", "03 1000");
@@ -653,6 +653,9 @@ static void begin_walks(void)
     alarm("and raised", UNI, 0x0101, 0, 1, GWZ_ANSWERED, 2);
     command("Sets of W attributes", SET, UNI, 0x0101, "B800 07 08 03 01",
             "00");
+    if (product == GWZ_LARGE)
+        command("Sets of W attributes", SET, UNI, 0x0101,
+                "01F8 0640 01 1234 01 01 99", "00");
     report("L contents", UNI, 0x0101, 2, "55", GWZ_ANSWERED);
 }
 
@@ -674,6 +677,9 @@ static void after_reset(void)
     command("no port", GET, PORT, 0xFFFF, "8000", "05");
     command("W attributes are as at first", GET, UNI, 0x0101, "B800",
             "00 B800");
+    if (product == GWZ_LARGE)
+        command("W attributes are as at first", GET, UNI, 0x0101, "01F8",
+                "00 01F8 05EE 00 0000 02 00 00");
     command("L attributes stay", GET, UNI, 0x0101, "4400",
             product == GWZ_SMALL ? "00 4400 55 01" : "00 4400 55 00");
     command("the upload has ended", UPLOAD_NEXT, ONT, 0, "", "");
