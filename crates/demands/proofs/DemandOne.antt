@@ -1,32 +1,32 @@
 -- Demand 1: which calls are dropped, by which number, and what a drop, a quiet call, an answer and a refusal leave as it was; and that a
 -- sound store stays sound.
-use Prim.Native.Nat.{ℕ, zero, suc, _+_, _*_, _/_, _%_, _≤_, _<_}
+use Prim.Native.Nat.{ℕ, _/_, _≤_, _<_}
 use native.Mathlib.Omega.{arith}
 use mathlib.Core.Path.{_≡_, refl, sym, _∙_, ap}
 use mathlib.Core.Bool.{Bool, true, false, not, cond}
 use mathlib.Core.Option.{Option, none, some}
 use mathlib.Core.Logic.{_≢_}
 use mathlib.Core.List.{List, [], _∷_, _++_}
-use lib.ListN.{length, take, drop, getD, replicate}
+use lib.ListN.{length, take, drop, getD}
 use lib.Seq.{drop-at}
 use lib.Dec.{eqb, ltb}
-use Rattle.rules.specs.Maps.{_and_, _or_, Map, given, find, among, same, is-some, first-that-applies}
-use Rattle.rules.specs.Bytes.{byte, two, bytes, fill, are-bytes}
-use Rattle.rules.specs.Catalogue.{Class, Catalogue, class, attribute}
-use Rattle.rules.specs.State.{Table, Alarms, Memory, State, holds, contents}
+use Rattle.rules.specs.Maps.{_and_, _or_, given, find, among, same, is-some, first-that-applies}
+use Rattle.rules.specs.Bytes.{byte, two, bytes}
+use Rattle.rules.specs.Catalogue.{Catalogue, class, attribute, key}
+use Rattle.rules.specs.State.{Memory, State, holds, contents, content, alarms-of}
 use Rattle.rules.specs.Legal.{legal-content, legal-state, header-drops}
-use Rattle.rules.specs.Messages.{message-drops, trailer}
+use Rattle.rules.specs.Messages.{message-drops}
 use Rattle.rules.specs.Reports.{Outcome, dropped, quiet, answered, unless-dropped, attribute-drops, report-attribute, alarm-drops, turned, report-alarm}
 use Rattle.rules.specs.Run.{is-repeat, answer-anew, answer-again, handle, Call, message, attribute-report, alarm-report, store-length, reply-length, taken, fresh}
 use Rattle.rules.specs.Products.{Products}
-use Rattle.rules.proofs.Laws.{cases, never, true-false, not-true, not-false, false-not, ltb-lt, ltb-le, lt-ltb, le-ltb}
+use Rattle.rules.proofs.Laws.{cases, never, true-false, ltb-lt, ltb-le, lt-ltb, le-ltb}
 use Rattle.rules.proofs.MapLaws.{some-eq, none-some}
 use Rattle.store.specs.Layout.{encode}
 use Rattle.store.specs.Decode.{Held, decode, sound}
 use Rattle.store.specs.Entries.{Left, written, leave, refuse, enter, power-on}
 use Rattle.store.specs.Fitting.{AllFit}
 use Rattle.store.proofs.Soundness.{sound-is-an-encoding, legal-length, decode-of-held, decode-of-written, length-written}
-use Rattle.kept.proofs.Refusals.{NoneApplies, unless-dropped-is, first-has}
+use Rattle.kept.proofs.Refusals.{first-has}
 use Rattle.kept.proofs.LegalStates.{open-state, close-state}
 use Rattle.kept.proofs.Kept.{OfBytes, SentIsAMessage, taken-fine, the-fresh-state-is-legal}
 
@@ -49,7 +49,8 @@ is-quiet (dropped n) = none
 is-quiet quiet = some 0
 is-quiet (answered r) = none
 
-abbrev sent : Outcome → List ℕ
+-- what is sent
+abbrev pub sent : Outcome → List ℕ
 sent (dropped n) = []
 sent quiet = []
 sent (answered r) = r
@@ -83,29 +84,45 @@ pub the-drops-of-an-alarm-report : (cat : Catalogue) (s : State) (c i n : ℕ) �
 unfolding alarm-drops
 the-drops-of-an-alarm-report cat s c i n = refl
 
-dropped-by : (s : State) (drops : List (Bool × ℕ)) (r : State × Outcome) → drop-of (r .1) ≡ none → drop-of (unless-dropped s drops r .1) ≡ first-that-applies drops
+-- a call that isn't dropped by its list isn't dropped; one that is leaves the state as it was
+record AsListed (s : State) (drops : List (Bool × ℕ)) (r : State × Outcome) : Type 0 where
+  number : drop-of (r .1) ≡ first-that-applies drops
+  state : (n : ℕ) → r .1 ≡ dropped n → r .0 ≡ s
+
+dropped-by : (s : State) (drops : List (Bool × ℕ)) (r : State × Outcome) → drop-of (r .1) ≡ none → AsListed s drops (unless-dropped s drops r)
 unfolding unless-dropped
-dropped-by s drops r e = go (first-that-applies drops)
+dropped-by s drops r e = record { number = go (first-that-applies drops); state = stays (first-that-applies drops) }
   where
     go : (o : Option ℕ) → drop-of (given o r (λ n. (s, dropped n)) .1) ≡ o
     go none = e
     go (some n) = refl
+
+    stays : (o : Option ℕ) (n : ℕ) → given o r (λ n. (s, dropped n)) .1 ≡ dropped n → given o r (λ n. (s, dropped n)) .0 ≡ s
+    stays none n y = none-some (sym e ∙ ap drop-of y)
+    stays (some k) n y = refl
 
 handled : (cat : Catalogue) (s : State) (m : List ℕ) (o : Option Memory) → drop-of (given o (answer-anew cat s m) (answer-again cat s m) .1) ≡ none
 unfolding answer-anew answer-again
 handled cat s m none = refl
 handled cat s m (some r) = cases (is-repeat m r) (λ e. rw e refl) (λ e. rw e refl)
 
+as-listed : (cat : Catalogue) (s : State) (c : Call) → AsListed s (call-drops cat s c) (taken cat s c)
+unfolding taken handle report-attribute report-alarm turned
+as-listed cat s (message m) = dropped-by s (message-drops m) _ (handled cat s m (s .remembered))
+as-listed cat s (attribute-report c i n v) = dropped-by s (attribute-drops cat s c i n v) _ (
+    let b : Bool = not (same v (content n (contents cat (s .table) c i))) and attribute (class cat c) n .avc in
+    cases b (λ e. rw e refl) (λ e. rw e refl))
+as-listed cat s (alarm-report c i n on) = dropped-by s (alarm-drops cat s c i n) _ (
+    let is-on : Bool = getD (alarms-of (key c i) (s .alarms)) n false in
+    cases ((is-on and on) or not (is-on or on)) (λ e. rw e refl) (λ e. rw e refl))
+
 -- on a state, a call is dropped exactly as its own list says: with the first number that applies, and not if none does
 pub a-call-drops-as-its-list-says : (cat : Catalogue) (s : State) (c : Call) → drop-of (taken cat s c .1) ≡ first-that-applies (call-drops cat s c)
-unfolding taken handle report-attribute report-alarm turned
-a-call-drops-as-its-list-says cat s (message m) = dropped-by s (message-drops m) _ (handled cat s m (s .remembered))
-a-call-drops-as-its-list-says cat s (attribute-report c i n v) = dropped-by s (attribute-drops cat s c i n v) _ (
-    let b : Bool = not (same v (Rattle.rules.specs.State.content n (contents cat (s .table) c i))) and attribute (class cat c) n .avc in
-    cases b (λ e. rw e refl) (λ e. rw e refl))
-a-call-drops-as-its-list-says cat s (alarm-report c i n on) = dropped-by s (alarm-drops cat s c i n) _ (
-    let is-on : Bool = getD (Rattle.rules.specs.State.alarms-of (Rattle.rules.specs.Catalogue.key c i) (s .alarms)) n false in
-    cases ((is-on and on) or not (is-on or on)) (λ e. rw e refl) (λ e. rw e refl))
+a-call-drops-as-its-list-says cat s c = as-listed cat s c .number
+
+-- a dropped call leaves the state as it was
+pub a-dropped-call-keeps-the-state : (cat : Catalogue) (s : State) (c : Call) (n : ℕ) → taken cat s c .1 ≡ dropped n → taken cat s c .0 ≡ s
+a-dropped-call-keeps-the-state cat s c n e = as-listed cat s c .state n e
 
 -- an entry drops with 1 or 2 before anything else, or does what the rules do to the state that the store holds
 entered {ℓ} : (X : Left → Type ℓ) (products : Products) (c : Call) (store buffer : List ℕ)
@@ -149,6 +166,27 @@ own-drops-are-over-2 cat s (attribute-report c i k v) n e = first-has (λ n. 2 <
     ((λ y. omega arith), ((λ y. omega arith), ((λ y. omega arith), tt))) n e
 own-drops-are-over-2 cat s (alarm-report c i k on) n e = first-has (λ n. 2 < n) (alarm-drops cat s c i k)
     ((λ y. omega arith), ((λ y. omega arith), tt)) n e
+
+-- the numbers of the list that a call can be dropped with
+abbrev pub numbers-for : Call → List ℕ
+numbers-for (message m) = 1 ∷ 2 ∷ 3 ∷ 4 ∷ 5 ∷ 6 ∷ 7 ∷ []
+numbers-for (attribute-report c i n v) = 1 ∷ 2 ∷ 11 ∷ 12 ∷ 13 ∷ []
+numbers-for (alarm-report c i n on) = 1 ∷ 2 ∷ 11 ∷ 12 ∷ []
+
+first-two : (c : Call) → (among 1 (numbers-for c) ≡ true) × (among 2 (numbers-for c) ≡ true)
+unfolding among _or_
+first-two (message m) = (refl, refl)
+first-two (attribute-report c i n v) = (refl, refl)
+first-two (alarm-report c i n on) = (refl, refl)
+
+own-drops-are-listed : (cat : Catalogue) (s : State) (c : Call) (n : ℕ) → first-that-applies (call-drops cat s c) ≡ some n → among n (numbers-for c) ≡ true
+unfolding message-drops header-drops attribute-drops alarm-drops among _or_
+own-drops-are-listed cat s (message m) n e = first-has (λ n. among n (1 ∷ 2 ∷ 3 ∷ 4 ∷ 5 ∷ 6 ∷ 7 ∷ []) ≡ true) (message-drops m)
+    ((λ y. refl), ((λ y. refl), ((λ y. refl), ((λ y. refl), ((λ y. refl), tt))))) n e
+own-drops-are-listed cat s (attribute-report c i k v) n e = first-has (λ n. among n (1 ∷ 2 ∷ 11 ∷ 12 ∷ 13 ∷ []) ≡ true) (attribute-drops cat s c i k v)
+    ((λ y. refl), ((λ y. refl), ((λ y. refl), tt))) n e
+own-drops-are-listed cat s (alarm-report c i k on) n e = first-has (λ n. among n (1 ∷ 2 ∷ 11 ∷ 12 ∷ []) ≡ true) (alarm-drops cat s c i k)
+    ((λ y. refl), ((λ y. refl), tt)) n e
 
 drop-number : (o : Outcome) (n : ℕ) → drop-of o ≡ some n → o ≡ dropped n
 drop-number (dropped m) n e = ap dropped (some-eq e)
@@ -197,6 +235,24 @@ module _ (products : Products) (c : Call) (store buffer : List ℕ) where
   pub else-the-first-of-its-own-drops : 48 ≤ length buffer → (h : Held) → decode products store ≡ some h
       → drop-of (enter products c store buffer .outcome) ≡ first-that-applies (call-drops (h .catalogue) (h .state) c)
   else-the-first-of-its-own-drops b h e = which-drop products c store buffer ∙ rw (le-ltb (length buffer) 48 b, e) refl
+
+  -- the outcome is then what the rules say of that state
+  pub the-outcome-is-the-rules : 48 ≤ length buffer → (h : Held) → decode products store ≡ some h
+      → enter products c store buffer .outcome ≡ taken (h .catalogue) (h .state) c .1
+  unfolding enter
+  the-outcome-is-the-rules b h e =
+      rw (le-ltb (length buffer) 48 b, e) (left-outcome h store buffer (taken (h .catalogue) (h .state) c .0) (taken (h .catalogue) (h .state) c .1))
+
+  -- a call that is dropped is dropped with a number from its list: 1 to 7 for a message, 1, 2 and 11 to 13 for an attribute report, 1, 2, 11
+  -- and 12 for an alarm report
+  pub every-drop-is-from-the-list : (n : ℕ) → enter products c store buffer .outcome ≡ dropped n → among n (numbers-for c) ≡ true
+  unfolding refuse
+  every-drop-is-from-the-list n = entered (λ l. l .outcome ≡ dropped n → among n (numbers-for c) ≡ true) products c store buffer
+      (λ e y. let z : _≡_ {A = ℕ} 1 n = some-eq (ap drop-of y) in rw (← z) (first-two c .0))
+      (λ e f y. let z : _≡_ {A = ℕ} 2 n = some-eq (ap drop-of y) in rw (← z) (first-two c .1))
+      (λ e h f y. own-drops-are-listed (h .catalogue) (h .state) c n (
+      sym (a-call-drops-as-its-list-says (h .catalogue) (h .state) c)
+      ∙ ap drop-of (sym (left-outcome h store buffer (taken (h .catalogue) (h .state) c .0) (taken (h .catalogue) (h .state) c .1)) ∙ y)))
 
   -- ---- what stays as it was
 
@@ -299,6 +355,21 @@ module _ (products : Products) (fit : AllFit products) (c : Call) (of-bytes : Of
       go k s quiet e g = unfold leave in rw (decode-of-written products fit k s store e g) refl
       go k s (answered q) e g = unfold leave in rw (decode-of-written products fit k s store e g) refl
 
+  -- on a store that holds a state, with room in the buffer: the store after the call holds the state that the rules leave
+  pub the-store-holds-what-the-rules-leave : (h : Held) → decode products store ≡ some h → 48 ≤ length buffer
+      → decode products (enter products c store buffer .store) ≡ some (record { product = h .product; catalogue = h .catalogue; state = taken (h .catalogue) (h .state) c .0 })
+  unfolding enter
+  the-store-holds-what-the-rules-leave h e long =
+      rw (le-ltb (length buffer) 48 long, e) (go (taken (h .catalogue) (h .state) c .1) (a-dropped-call-keeps-the-state (h .catalogue) (h .state) c))
+    where
+      go : (o : Outcome) → ((n : ℕ) → o ≡ dropped n → taken (h .catalogue) (h .state) c .0 ≡ h .state)
+          → decode products (leave h store buffer (taken (h .catalogue) (h .state) c .0) o .store)
+          ≡ some (record { product = h .product; catalogue = h .catalogue; state = taken (h .catalogue) (h .state) c .0 })
+      go (dropped n) f = unfold leave in e ∙ ap (λ (s : State). some (record { product = h .product; catalogue = h .catalogue; state = s })) (sym (f n refl))
+      go quiet f = unfold leave in decode-of-written products fit h (taken (h .catalogue) (h .state) c .0) store (sound-is-an-encoding products store h e .0) (fine-after h e .0)
+      go (answered r) f =
+          unfold leave in decode-of-written products fit h (taken (h .catalogue) (h .state) c .0) store (sound-is-an-encoding products store h e .0) (fine-after h e .0)
+
 -- ---- runs from power-on
 
 -- what is called, and the reply buffer that is lent to it
@@ -344,6 +415,36 @@ module _ (products : Products) (fit : AllFit products) where
   a-run-from-power-on-never-meets-drop-2 p lent before c buffer on b e =
       true-false (a-sound-store-stays-sound-in-a-run before (power-on products p lent .1) b (a-powered-on-store-is-sound p lent on))
       (drop-2-only-if-the-store-is-unsound products c (store-after products before (power-on products p lent .1)) buffer e .1)
+
+  -- which drop a power-on has: 2 if the store is too short, else 12 if there is no such product, else none
+  pub which-drop-at-power-on : (p : ℕ) (lent : List ℕ) → power-on products p lent .0 ≡ cond (ltb (length lent) store-length) (some 2) (given (find p products) (some 12) (λ cat. none))
+  unfolding power-on
+  which-drop-at-power-on p lent = cases (ltb (length lent) store-length) (λ e. rw e refl) (λ e. rw e (go (find p products)))
+    where
+      go : (o : Option Catalogue) → given {B = Option ℕ × List ℕ} o (some 12, lent) (λ cat. (none, encode p cat (fresh cat) ++ drop store-length lent)) .0 ≡ given o (some 12) (λ cat. none)
+      go none = refl
+      go (some cat) = refl
+
+  -- a dropped power-on leaves every byte of the store as it was
+  pub a-dropped-power-on-changes-nothing : (p : ℕ) (lent : List ℕ) (n : ℕ) → power-on products p lent .0 ≡ some n → power-on products p lent .1 ≡ lent
+  unfolding power-on
+  a-dropped-power-on-changes-nothing p lent n e = cases (ltb (length lent) store-length) (λ y. rw y refl) (λ y. rw y (go (find p products) (rw y at e)))
+    where
+      go : (o : Option Catalogue) → given {B = Option ℕ × List ℕ} o (some 12, lent) (λ cat. (none, encode p cat (fresh cat) ++ drop store-length lent)) .0 ≡ some n
+          → given {B = Option ℕ × List ℕ} o (some 12, lent) (λ cat. (none, encode p cat (fresh cat) ++ drop store-length lent)) .1 ≡ lent
+      go none z = refl
+      go (some cat) z = none-some z
+
+  -- the bytes past the store's length stay at a power-on
+  pub bytes-past-the-store-stay-at-power-on : (p : ℕ) (lent : List ℕ) → drop store-length (power-on products p lent .1) ≡ drop store-length lent
+  unfolding power-on
+  bytes-past-the-store-stay-at-power-on p lent = cases (ltb (length lent) store-length) (λ y. rw y refl) (λ y. rw y (go (find p products) refl))
+    where
+      go : (o : Option Catalogue) → find p products ≡ o
+          → drop store-length (given {B = Option ℕ × List ℕ} o (some 12, lent) (λ cat. (none, encode p cat (fresh cat) ++ drop store-length lent)) .1) ≡ drop store-length lent
+      go none f = refl
+      go (some cat) f = drop-at (encode p cat (fresh cat)) (drop store-length lent) store-length
+          (legal-length p cat (fresh cat) (the-fresh-state-is-legal cat (fit .well-formed p cat f)))
 
   -- power-on is accepted if the product is one of the list and the store is long enough
   pub power-on-is-accepted : (p : ℕ) (cat : Catalogue) (lent : List ℕ) → find p products ≡ some cat → store-length ≤ length lent → power-on products p lent .0 ≡ none
