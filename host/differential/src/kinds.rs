@@ -1,0 +1,51 @@
+//! The kinds of tests. Each gives a line that says what it did, or the run
+//! after which something doesn't hold.
+
+mod damage;
+mod examples;
+mod orders;
+mod rebuild;
+mod runs;
+mod sweeps;
+
+use crate::run::Failure;
+
+/// What can be chosen by hand.
+#[derive(Clone, Copy)]
+pub struct Options {
+    /// How many calls the random runs make together.
+    pub calls: usize,
+    /// What the random tests start from.
+    pub seed: u64,
+}
+
+/// One kind of test.
+pub struct Kind {
+    pub name: &'static str,
+    pub test: fn(&Options) -> Result<String, Failure>,
+}
+
+/// All kinds, in the order in which they are run.
+pub const ALL: [Kind; 17] = [
+    Kind { name: "examples", test: examples::test },
+    Kind { name: "lent-sizes", test: sweeps::lent_sizes },
+    Kind { name: "headers", test: sweeps::headers },
+    Kind { name: "repeats", test: sweeps::repeats },
+    Kind { name: "classes", test: sweeps::classes },
+    Kind { name: "instances", test: sweeps::instances },
+    Kind { name: "indices", test: sweeps::indices },
+    Kind { name: "masks", test: sweeps::masks },
+    Kind { name: "contents", test: sweeps::contents },
+    Kind { name: "reports", test: sweeps::reports },
+    Kind { name: "full-tables", test: sweeps::full_tables },
+    Kind { name: "random-runs", test: runs::test },
+    Kind { name: "orders", test: orders::test },
+    Kind { name: "flipped-stores", test: damage::flipped },
+    Kind { name: "foreign-stores", test: damage::foreign },
+    Kind { name: "rebuilt-states", test: rebuild::test },
+    Kind { name: "idle-bytes", test: damage::idle_bytes },
+];
+
+const SMALL: u8 = 1;
+const LARGE: u8 = 2;
+const BOTH: [u8; 2] = [SMALL, LARGE];
