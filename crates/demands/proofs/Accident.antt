@@ -254,6 +254,7 @@ module _ (cat : Catalogue) where
       → upload-next cat (after cat s l) 2 0 w .1 ≡ upload-next cat s 2 0 w .1
   whatever-comes-in-between-no-section-changes s l w h = a-section-is-of-the-frozen-copy-alone cat s (after cat s l) 2 0 w (whatever-comes-in-between-the-upload-stays s l h)
 
+  -- The same of the sections of an alarm walk.
   pub whatever-comes-in-between-no-alarm-section-changes : (s : State) (l : List Input) (w : List ℕ) → EachCall LeavesAlarmWalks l
       → alarms-next (after cat s l) 2 0 w .1 ≡ alarms-next s 2 0 w .1
   whatever-comes-in-between-no-alarm-section-changes s l w h = an-alarm-section-is-of-the-frozen-copy-alone s (after cat s l) 2 0 w (whatever-comes-in-between-the-alarm-walk-stays s l h)

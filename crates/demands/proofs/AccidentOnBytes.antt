@@ -77,6 +77,7 @@ an-upload-next-is-answered-from-the-frozen-table cat s m p h =
 
 -- ---- a run of calls in between
 
+-- each call of a run
 abbrev pub EachLent : (Call → Type 0) → List Lent → Type 0
 EachLent P [] = Unit {0}
 EachLent P (x ∷ l) = P (x .0) × EachLent P l

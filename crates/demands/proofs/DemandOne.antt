@@ -18,13 +18,14 @@ use Rattle.rules.specs.Legal.{legal-content, legal-state, header-drops}
 use Rattle.rules.specs.Messages.{message-drops}
 use Rattle.rules.specs.Reports.{Outcome, dropped, quiet, answered, unless-dropped, attribute-drops, report-attribute, alarm-drops, turned, report-alarm}
 use Rattle.rules.specs.Run.{is-repeat, answer-anew, answer-again, handle, Call, message, attribute-report, alarm-report, store-length, reply-length, taken, fresh}
-use Rattle.rules.specs.Products.{Products}
+use Rattle.rules.specs.Products.{Products, built-products}
 use Rattle.rules.proofs.Laws.{cases, never, true-false, ltb-lt, ltb-le, lt-ltb, le-ltb}
 use Rattle.rules.proofs.MapLaws.{some-eq, none-some}
 use Rattle.store.specs.Layout.{encode}
 use Rattle.store.specs.Decode.{Held, decode, sound}
 use Rattle.store.specs.Entries.{Left, written, leave, refuse, enter, power-on}
 use Rattle.store.specs.Fitting.{AllFit}
+use Rattle.store.proofs.Built.{built-products-fit}
 use Rattle.store.proofs.Soundness.{sound-is-an-encoding, legal-length, decode-of-held, decode-of-written, length-written}
 use Rattle.kept.proofs.Refusals.{first-has}
 use Rattle.kept.proofs.LegalStates.{open-state, close-state}
@@ -198,6 +199,7 @@ module _ (products : Products) (c : Call) (store buffer : List ℕ) where
   pub drop-1-if-the-buffer-is-short : length buffer < 48 → enter products c store buffer .outcome ≡ dropped 1
   drop-1-if-the-buffer-is-short h = drop-number (enter products c store buffer .outcome) 1 (which-drop products c store buffer ∙ rw (lt-ltb (length buffer) 48 h) refl)
 
+  -- and only then
   pub drop-1-only-if-the-buffer-is-short : enter products c store buffer .outcome ≡ dropped 1 → length buffer < 48
   drop-1-only-if-the-buffer-is-short e = cases (ltb (length buffer) 48) (λ y. ltb-lt (length buffer) 48 y)
       (λ y.
@@ -218,6 +220,7 @@ module _ (products : Products) (c : Call) (store buffer : List ℕ) where
       go none e = refl
       go (some h) e = never (sym e)
 
+  -- and only then
   pub drop-2-only-if-the-store-is-unsound : enter products c store buffer .outcome ≡ dropped 2 → (48 ≤ length buffer) × (sound products store ≡ false)
   unfolding sound
   drop-2-only-if-the-store-is-unsound e = cases (ltb (length buffer) 48)
@@ -450,3 +453,10 @@ module _ (products : Products) (fit : AllFit products) where
   pub power-on-is-accepted : (p : ℕ) (cat : Catalogue) (lent : List ℕ) → find p products ≡ some cat → store-length ≤ length lent → power-on products p lent .0 ≡ none
   unfolding power-on
   power-on-is-accepted p cat lent e h = rw (le-ltb (length lent) store-length h, e) refl
+
+-- Of the products that are built: Small (1) and Large (2), powered on in any store of at least the store's length, meet drop 2 in no run.
+pub small-and-large-never-meet-drop-2 : (p : ℕ) (cat : Catalogue) (lent : List ℕ) (before : List Lent) (c : Call) (buffer : List ℕ)
+    → find p built-products ≡ some cat → store-length ≤ length lent → RunOfBytes before
+    → enter built-products c (store-after built-products before (power-on built-products p lent .1)) buffer .outcome ≢ dropped 2
+small-and-large-never-meet-drop-2 p cat lent before c buffer e long b =
+    a-run-from-power-on-never-meets-drop-2 built-products built-products-fit p lent before c buffer (power-on-is-accepted built-products built-products-fit p cat lent e long) b

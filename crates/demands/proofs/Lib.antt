@@ -5,4 +5,8 @@ pub mod Accident
 pub mod AccidentOnBytes
 pub mod AccidentExample
 pub mod Sets
+pub mod Creates
+pub mod Resets
+pub mod Uploads
+pub mod UploadsOnce
 pub mod Worthless

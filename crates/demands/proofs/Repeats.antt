@@ -35,6 +35,7 @@ pub record Remembers (s : State) (m r : List ℕ) : Type 0 where
   pub its-command : take 40 m ≡ memory .command
   pub its-reply : memory .reply ≡ r
 
+-- every answered message is remembered so, refused ones too
 pub an-answered-command-is-remembered : (cat : Catalogue) (s : State) (m r : List ℕ) → handle cat s m .1 ≡ answered r → Remembers (handle cat s m .0) m r
 unfolding handle answer-anew answer-again remember is-repeat
 an-answered-command-is-remembered cat s m r = unless-dropped-is (λ x. x .1 ≡ answered r → Remembers (x .0) m r) s (message-drops m) _

@@ -38,12 +38,12 @@ use Rattle.demands.proofs.AccidentOnBytes.{IsNoRepeat, answered-anew}
 -- ---- the contents after a change of one instance
 
 module _ (cat : Catalogue) (t : Table) (c i : ℕ) (f : Contents → Contents) where
-  changed-entries : entries (change cat c i f t) ≡ at-key (key (leader cat c) i) (at-key c f) (entries t)
+  pub changed-entries : entries (change cat c i f t) ≡ at-key (key (leader cat c) i) (at-key c f) (entries t)
   unfolding change
   changed-entries = sym (each-append (λ j a. cond (eqb j (key (leader cat c) i)) (at-key c f a) a) (t .automatic) (t .created))
 
   -- another instance's contents stay
-  contents-elsewhere : (d j : ℕ) → (d ≡ c → j ≡ i → ⊥) → contents cat (change cat c i f t) d j ≡ contents cat t d j
+  pub contents-elsewhere : (d j : ℕ) → (d ≡ c → j ≡ i → ⊥) → contents cat (change cat c i f t) d j ≡ contents cat t d j
   unfolding contents entry
   contents-elsewhere d j apart =
       let k : ℕ = key (leader cat c) i in
@@ -70,7 +70,7 @@ module _ (cat : Catalogue) (t : Table) (c i : ℕ) (f : Contents → Contents) w
           (λ u. rw u refl)
 
   -- the instance's own are changed
-  contents-here : f [] ≡ [] → contents cat (change cat c i f t) c i ≡ f (contents cat t c i)
+  pub contents-here : f [] ≡ [] → contents cat (change cat c i f t) c i ≡ f (contents cat t c i)
   unfolding contents entry find
   contents-here fe =
       let k : ℕ = key (leader cat c) i in
@@ -87,7 +87,7 @@ module _ (cat : Catalogue) (t : Table) (c i : ℕ) (f : Contents → Contents) w
 
 -- ---- the contents after new ones are put over them
 
-content-kept : (new r : Contents) (n : ℕ) → find n new ≡ none → content n (overwrite new r) ≡ content n r
+pub content-kept : (new r : Contents) (n : ℕ) → find n new ≡ none → content n (overwrite new r) ≡ content n r
 unfolding content overwrite
 content-kept new r n e = rw (find-each (λ m v. given (find m new) v (λ w. w)) n r) (go (find n r))
   where
@@ -95,7 +95,7 @@ content-kept new r n e = rw (find-each (λ m v. given (find m new) v (λ w. w)) 
     go none = refl
     go (some v) = rw e refl
 
-content-put : (new r : Contents) (n : ℕ) (w : List ℕ) → find n new ≡ some w → has n r ≡ true → content n (overwrite new r) ≡ w
+pub content-put : (new r : Contents) (n : ℕ) (w : List ℕ) → find n new ≡ some w → has n r ≡ true → content n (overwrite new r) ≡ w
 unfolding content overwrite
 content-put new r n w e h = rw (find-each (λ m v. given (find m new) v (λ w. w)) n r) (go (find n r) h)
   where
@@ -105,7 +105,7 @@ content-put new r n w e h = rw (find-each (λ m v. given (find m new) v (λ w. w
 
 module _ (cat : Catalogue) (t : Table) (c i : ℕ) (new : Contents) where
   -- what isn't among the new contents stays, in every instance
-  others-stay : (d j n : ℕ) → (d ≡ c → j ≡ i → find n new ≡ none) → content n (contents cat (change cat c i (overwrite new) t) d j) ≡ content n (contents cat t d j)
+  pub others-stay : (d j n : ℕ) → (d ≡ c → j ≡ i → find n new ≡ none) → content n (contents cat (change cat c i (overwrite new) t) d j) ≡ content n (contents cat t d j)
   unfolding overwrite each
   others-stay d j n h = same? d c
       (λ x. same? j i
@@ -117,21 +117,21 @@ module _ (cat : Catalogue) (t : Table) (c i : ℕ) (new : Contents) where
       (λ x. ap (content n) (contents-elsewhere cat t c i (overwrite new) d j (λ p q. x p)))
 
   -- what is among them takes its new content
-  named-change : (n : ℕ) (w : List ℕ) → find n new ≡ some w → has n (contents cat t c i) ≡ true → content n (contents cat (change cat c i (overwrite new) t) c i) ≡ w
+  pub named-change : (n : ℕ) (w : List ℕ) → find n new ≡ some w → has n (contents cat t c i) ≡ true → content n (contents cat (change cat c i (overwrite new) t) c i) ≡ w
   unfolding overwrite each
   named-change n w e h = ap (content n) (contents-here cat t c i (overwrite new) refl) ∙ content-put new (contents cat t c i) n w e h
 
 -- ---- what a Set carries
 
-cut-none : (size : ℕ → ℕ) (l v : List ℕ) (n : ℕ) → among n l ≡ false → find n (cut size l v) ≡ none
+pub cut-none : (size : ℕ → ℕ) (l v : List ℕ) (n : ℕ) → among n l ≡ false → find n (cut size l v) ≡ none
 unfolding cut find among
 cut-none size [] v n h = refl
 cut-none size (x ∷ l) v n h = let g = or-none h in rw (g .0) (cut-none size l (drop (size x) v) n (g .1))
 
-cut-some : (size : ℕ → ℕ) (l v : List ℕ) (n : ℕ) → among n l ≡ true → has n (cut size l v) ≡ true
+pub cut-some : (size : ℕ → ℕ) (l v : List ℕ) (n : ℕ) → among n l ≡ true → has n (cut size l v) ≡ true
 cut-some size l v n h = has-among n (cut size l v) ∙ ap (among n) (keys-cut size l v) ∙ h
 
-number-one : (x : ℕ) → number (x ∷ []) ≡ x
+pub number-one : (x : ℕ) → number (x ∷ []) ≡ x
 unfolding number-from
 number-one x = omega arith
 
@@ -184,7 +184,7 @@ module _ (cat : Catalogue) (s : State) (c i : ℕ) (v : List ℕ) where
 
 module _ (cat : Catalogue) (wf : WellFormed cat) (t : Table) (h : LegalLive cat wf t) where
   -- a stored attribute of an instance that is there has a content
-  stored-is-there : (c i n : ℕ) → There cat t c i → supported (class cat c) n ≡ true → is-stored (attribute (class cat c) n .source) ≡ true → has n (contents cat t c i) ≡ true
+  pub stored-is-there : (c i n : ℕ) → There cat t c i → supported (class cat c) n ≡ true → is-stored (attribute (class cat c) n .source) ≡ true → has n (contents cat t c i) ≡ true
   unfolding contents entry stored-numbers
   stored-is-there c i n x sup st =
       let f = find-some c (x .its-entry) (x .has-class) in
@@ -196,7 +196,7 @@ module _ (cat : Catalogue) (wf : WellFormed cat) (t : Table) (h : LegalLive cat 
       (has-among n (f .0) ∙ ap (among n) (l .its-keys) ∙ sym (has-among n (keep (λ m a. is-stored (a .source)) (class cat c .attributes))) ∙ q)
 
   -- what can be written is stored
-  written-is-there : (c i n : ℕ) → There cat t c i → attribute (class cat c) n .W ≡ true → has n (contents cat t c i) ≡ true
+  pub written-is-there : (c i n : ℕ) → There cat t c i → attribute (class cat c) n .W ≡ true → has n (contents cat t c i) ≡ true
   unfolding rights-only-if-stored
   written-is-there c i n x w =
       let sup : supported (class cat c) n ≡ true = W-supported (class cat c) n w in
@@ -204,7 +204,7 @@ module _ (cat : Catalogue) (wf : WellFormed cat) (t : Table) (h : LegalLive cat 
       (or-left (attribute (class cat c) n .C or attribute (class cat c) n .L) w))
 
   -- the ONT data is there
-  ont-data-is-there : There cat t ont-data 0
+  pub ont-data-is-there : There cat t ont-data 0
   ont-data-is-there =
       let k : ℕ = key ont-data 0 in
       let here : has k (t .automatic) ≡ true = has-among k (t .automatic) ∙ ap (among k) (h .automatic-keys) ∙ among-here k (automatic-keys cat) in
@@ -221,7 +221,7 @@ module _ (cat : Catalogue) (wf : WellFormed cat) (t : Table) (h : LegalLive cat 
             ∙ ap (λ (d : ℕ). among ont-data (keys (family cat d))) (sym leads) ∙ family-has cat wf ont-data knows;
       }
 
-  counter-is-there : has 1 (contents cat t ont-data 0) ≡ true
+  pub counter-is-there : has 1 (contents cat t ont-data 0) ≡ true
   counter-is-there = written-is-there ont-data 0 1 ont-data-is-there (wf .class-2-has-the-counter .is-W)
 
 module _ (cat : Catalogue) (wf : WellFormed cat) (s : State) (legal : legal-state cat s ≡ true) (c i : ℕ) (v : List ℕ) (yes-it-is : Accepted cat s c i v) where

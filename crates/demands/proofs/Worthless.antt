@@ -3,12 +3,14 @@
 use Prim.Native.Nat.{ℕ, _≤_}
 use native.Mathlib.Omega.{arith}
 use mathlib.Core.Path.{_≡_, refl, sym, _∙_, ap}
+use mathlib.Core.Bool.{true}
 use mathlib.Core.Option.{none, some}
 use mathlib.Core.Logic.{_≢_}
 use mathlib.Core.List.{List, [], _∷_, _++_}
 use lib.ListN.{length, drop, replicate}
+use Rattle.rules.specs.Maps.{among}
 use Rattle.rules.specs.Bytes.{byte, two, bytes}
-use Rattle.rules.specs.Messages.{contents-in, reply-to}
+use Rattle.rules.specs.Messages.{message-number, contents-in, with-result, reply-to}
 use Rattle.rules.specs.State.{Table}
 use Rattle.rules.specs.Walks.{sections, frozen}
 use Rattle.rules.specs.Reports.{Outcome, dropped, answered}
@@ -73,11 +75,21 @@ pub e4-is-refused : enter built-products (message create-with-bad-max-age) small
 unfolding computing-worthless
 e4-is-refused = refl
 
--- E11's upload counts 1 on a fresh Small, E14's 3 after E3
+-- both are Creates, whose reply has a result
+e3-has-a-result : among (message-number create-bridge) with-result ≡ true
+unfolding computing-worthless
+e3-has-a-result = refl
+
+e4-has-a-result : among (message-number create-with-bad-max-age) with-result ≡ true
+unfolding computing-worthless
+e4-has-a-result = refl
+
+-- E11's upload counts 1 on a fresh Small
 pub the-upload-of-a-fresh-small-counts-1 : enter built-products (message ask-for-an-upload) small-store (room 48) .outcome ≡ answered (reply-with-count 1)
 unfolding computing-worthless
 the-upload-of-a-fresh-small-counts-1 = refl
 
+-- E14's upload counts 3 after E3
 pub the-upload-after-e3-counts-3 : enter built-products (message ask-for-an-upload) after-e3 (room 48) .outcome ≡ answered (reply-with-count 3)
 unfolding computing-worthless
 the-upload-after-e3-counts-3 = refl
@@ -89,10 +101,12 @@ held-before-e3 = record { product = 1; catalogue = Small; state = fresh Small }
 unfoldable pub held-after-e3 : Held
 held-after-e3 = record { product = 1; catalogue = Small; state = after Small (fresh Small) (call (message create-bridge) ∷ []) }
 
+-- a fresh Small's store holds the fresh state
 pub a-fresh-small-holds : decode built-products small-store ≡ some held-before-e3
 unfolding computing-worthless held-before-e3
 a-fresh-small-holds = refl
 
+-- after E3 it holds the state after E3
 pub after-e3-it-holds : decode built-products after-e3 ≡ some held-after-e3
 unfolding computing-worthless held-after-e3
 after-e3-it-holds = refl
@@ -112,13 +126,13 @@ small-is-fresh = record { product = 1; lent = replicate 3344 0x77 ++ behind; on 
 abbrev pub DropsEverything : Engine → Type 0
 DropsEverything engine = (store m buffer : List ℕ) → (n : ℕ) × (engine store m buffer .outcome ≡ dropped n)
 
--- (a) it drops or refuses everything: no message is answered with result 0
+-- (a) it drops or refuses everything: no command whose reply has a result is answered with 0
 abbrev pub DropsOrRefusesEverything : Engine → Type 0
-DropsOrRefusesEverything engine = (store m buffer r : List ℕ) → engine store m buffer .outcome ≡ answered r → result-in r ≢ 0
+DropsOrRefusesEverything engine = (store m buffer r : List ℕ) → among (message-number m) with-result ≡ true → engine store m buffer .outcome ≡ answered r → result-in r ≢ 0
 
--- (b) it always replies 0
+-- (b) it always replies 0, where the reply has a result
 abbrev pub AlwaysReplies0 : Engine → Type 0
-AlwaysReplies0 engine = (store m buffer r : List ℕ) → engine store m buffer .outcome ≡ answered r → result-in r ≡ 0
+AlwaysReplies0 engine = (store m buffer r : List ℕ) → among (message-number m) with-result ≡ true → engine store m buffer .outcome ≡ answered r → result-in r ≡ 0
 
 -- (c) it replies 0 and stores nothing: after a message that it answers with 0, the store holds the table that it held
 abbrev pub Replies0AndStoresNothing : Engine → Type 0
@@ -158,25 +172,25 @@ module _ (engine : Engine) (meets : MeetsTheContract engine) where
   its-outcome : (store m buffer : List ℕ) {o : Outcome} → enter built-products (message m) store buffer .outcome ≡ o → engine store m buffer .outcome ≡ o
   its-outcome store m buffer e = ap (λ (l : Left). l .outcome) (meets store m buffer) ∙ e
 
-  -- (a) by E3
+  -- (a) No engine that drops everything meets the contract: E3 is answered.
   pub one-that-drops-everything-is-shut-out : DropsEverything engine → ⊥
   one-that-drops-everything-is-shut-out d =
       let x = d small-store create-bridge (room 48) in
       none-some (ap drop-of (sym (its-outcome small-store create-bridge (room 48) e3-is-accepted) ∙ x .1))
 
-  -- (a) by E3
+  -- (a) Nor does one that drops or refuses everything: E3 is answered with 0.
   pub one-that-drops-or-refuses-everything-is-shut-out : DropsOrRefusesEverything engine → ⊥
   unfolding create-reply
-  one-that-drops-or-refuses-everything-is-shut-out d = d small-store create-bridge (room 48) create-reply (its-outcome small-store create-bridge (room 48) e3-is-accepted) refl
+  one-that-drops-or-refuses-everything-is-shut-out d = d small-store create-bridge (room 48) create-reply e3-has-a-result (its-outcome small-store create-bridge (room 48) e3-is-accepted) refl
 
-  -- (b) by E4
+  -- (b) Nor does one that always replies 0: E4 is answered with 3.
   pub one-that-always-replies-0-is-shut-out : AlwaysReplies0 engine → ⊥
   unfolding refused-reply
   one-that-always-replies-0-is-shut-out d =
-      let x : _≡_ {A = ℕ} 3 0 = d small-store create-with-bad-max-age (room 48) refused-reply (its-outcome small-store create-with-bad-max-age (room 48) e4-is-refused) in
+      let x : _≡_ {A = ℕ} 3 0 = d small-store create-with-bad-max-age (room 48) refused-reply e4-has-a-result (its-outcome small-store create-with-bad-max-age (room 48) e4-is-refused) in
       absurd (omega arith)
 
-  -- (c) by the table after E3
+  -- (c) Nor does one that replies 0 and stores nothing: the table after E3 has a created instance, the one before has none.
   pub one-that-replies-0-and-stores-nothing-is-shut-out : Replies0AndStoresNothing engine → ⊥
   unfolding computing-worthless held-before-e3 held-after-e3
   one-that-replies-0-and-stores-nothing-is-shut-out d =
@@ -187,7 +201,7 @@ module _ (engine : Engine) (meets : MeetsTheContract engine) where
       let x : _≡_ {A = ℕ} 1 0 = ap (λ (t : Table). length (t .created)) same in
       absurd (omega arith)
 
-  -- (d) by E14's upload, asked for after E3
+  -- (d) Nor does one that does its first command and then copies replies: E14's upload, asked for after E3, is answered with 3 sections.
   pub one-that-copies-replies-is-shut-out : CopiesReplies engine → ⊥
   unfolding create-reply reply-with-count
   one-that-copies-replies-is-shut-out d =
@@ -199,7 +213,7 @@ module _ (engine : Engine) (meets : MeetsTheContract engine) where
       let x : _≡_ {A = ℕ} 3 0 = ap (λ (l : List ℕ). byte l 1) same in
       absurd (omega arith)
 
-  -- (e) by E11 and E14
+  -- (e) Nor does one that makes up the count: E11 counts 1 and E14 counts 3.
   pub one-that-makes-up-the-count-is-shut-out : MakesUpTheCount engine → ⊥
   unfolding reply-with-count
   one-that-makes-up-the-count-is-shut-out (of-a-fresh-small d) =
@@ -207,14 +221,14 @@ module _ (engine : Engine) (meets : MeetsTheContract engine) where
   one-that-makes-up-the-count-is-shut-out (of-one-bridge d) =
       d (reply-with-count 3) (its-outcome after-e3 ask-for-an-upload (room 48) the-upload-after-e3-counts-3) refl
 
-  -- (e) by the sections
+  -- (e) Nor does one that anywhere answers an upload with another count than the number of sections.
   pub one-that-counts-something-else-is-shut-out : CountsSomethingElse engine → ⊥
   unfolding taken
   one-that-counts-something-else-is-shut-out d = d .wrong (its-outcome (d .store) (d .asked) (d .buffer)
       (the-outcome-is-the-rules built-products (message (d .asked)) (d .store) (d .buffer) (d .long) (d .holds) (d .held)
       ∙ an-upload-counts-the-sections-and-freezes-the-table (d .holds .catalogue) (d .holds .state) (d .asked) (d .passes) (d .no-repeat) .0))
 
-  -- (e) by E11 and E14
+  -- (e) Nor does one that counts without looking at the table: E11 and E14 differ.
   pub one-that-counts-without-looking-is-shut-out : CountsWithoutLooking engine → ⊥
   unfolding reply-with-count
   one-that-counts-without-looking-is-shut-out d =
@@ -232,7 +246,7 @@ there-is-one-that-drops-everything store m buffer = (3, refl)
 pub there-is-one-that-refuses-everything :
     DropsOrRefusesEverything (λ store m buffer. record { outcome = answered refused-reply; store = store; buffer = refused-reply ++ drop 48 buffer })
 unfolding refused-reply
-there-is-one-that-refuses-everything store m buffer r e y =
+there-is-one-that-refuses-everything store m buffer r w e y =
     let x : _≡_ {A = ℕ} 3 0 = ap (λ (o : Outcome). result-in (sent o)) e ∙ y in
     absurd (omega arith)
 
@@ -240,7 +254,7 @@ there-is-one-that-refuses-everything store m buffer r e y =
 pub there-is-one-that-always-replies-0 :
     AlwaysReplies0 (λ store m buffer. record { outcome = answered create-reply; store = store; buffer = create-reply ++ drop 48 buffer })
 unfolding create-reply
-there-is-one-that-always-replies-0 store m buffer r e = ap (λ (o : Outcome). result-in (sent o)) (sym e)
+there-is-one-that-always-replies-0 store m buffer r w e = ap (λ (o : Outcome). result-in (sent o)) (sym e)
 
 -- one that replies 0 and stores nothing
 pub there-is-one-that-replies-0-and-stores-nothing :
