@@ -4,6 +4,8 @@
 
 use std::collections::BTreeSet;
 
+use ordinary_engine::catalogue::{Class, Rule, Source};
+
 use super::{Options, BOTH, LARGE, SMALL};
 use crate::bench::Bench;
 use crate::generator::Generator;
@@ -241,43 +243,112 @@ pub fn foreign_bytes(benches: &[Bench], random: &mut Random) -> Vec<u8> {
 }
 
 /// One state, one encoding: a byte that can be changed without any difference
-/// to be seen encodes nothing. Only a few are excused.
+/// to be seen encodes nothing, and only a few are excused. The other way round,
+/// whatever may have any content can be changed without being dropped.
 pub fn idle_bytes(_: &Options) -> Result<String, Failure> {
     let mut told = Vec::new();
     for product in BOTH {
         // That an alarm walk was begun when there was no alarm can't be seen.
         let fresh = Bench::powered(product)?;
-        told.push(count_idle_bytes(&fresh, 1)?);
+        told.push(count_idle_bytes(&fresh, 1, false)?);
         // Of the remembered command it can be seen only whether the next one
         // equals it: its 40 bytes may change unseen.
         let mut furnished = Bench::furnished(product)?;
         furnished.call(Call::handle(&last_command()))?;
-        told.push(count_idle_bytes(&furnished, 40)?);
+        told.push(count_idle_bytes(&furnished, 40, true)?);
     }
     Ok(told.join("; "))
 }
 
-fn count_idle_bytes(bench: &Bench, excused: usize) -> Result<String, Failure> {
+const PATTERNS: [u8; 4] = [0x01, 0x02, 0x40, 0x80];
+
+/// A byte of a reply, by the step that it answers, and how it was changed.
+type Change = (usize, usize, u8);
+
+fn count_idle_bytes(bench: &Bench, excused: usize, remembers: bool) -> Result<String, Failure> {
     let reading = reading_out();
     let undamaged = bench.probe_all(&with_damage(0, 0, &reading))?;
     let mut idle = BTreeSet::new();
+    let mut changes = BTreeSet::new();
     let mut states = 0;
     for at in 0..bench.pair().proved_store().len() {
-        for xor in [0x01, 0x02, 0x40, 0x80] {
+        for xor in PATTERNS {
             let first = bench.probe_all(&with_damage(at, xor, &reading[..1]))?;
             if matches!(&first[1], Some(seen) if seen.number == 2) {
                 continue;
             }
             states += 1;
-            if bench.probe_all(&with_damage(at, xor, &reading))? == undamaged {
+            let seen = bench.probe_all(&with_damage(at, xor, &reading))?;
+            if seen == undamaged {
                 idle.insert(at);
             }
+            add_changes(&mut changes, &undamaged, &seen);
         }
     }
     let what = format!("bytes {idle:?} of the proved engine's store seem to encode nothing");
     bench.demand(idle.len() <= excused, &what)?;
-    Ok(format!("{states} changed states, {} idle bytes", idle.len()))
+    let free = free_bytes(&undamaged, remembers);
+    for &(step, byte) in &free {
+        let all = PATTERNS.iter().all(|&xor| changes.contains(&(step, byte, xor)));
+        let what = format!(
+            "byte {byte} of the reply to {} may be anything, but no sound store shows it changed",
+            reading[step - 1]
+        );
+        bench.demand(all, &what)?;
+    }
+    let (idle, free) = (idle.len(), free.len());
+    Ok(format!("{states} changed states, {idle} idle bytes, {free} free ones"))
 }
+
+fn add_changes(changes: &mut BTreeSet<Change>, before: &[Option<Seen>], after: &[Option<Seen>]) {
+    for (step, (before, after)) in before.iter().zip(after).enumerate() {
+        let (Some(before), Some(after)) = (before, after) else {
+            continue;
+        };
+        for (byte, (before, after)) in before.reply.iter().zip(&after.reply).enumerate() {
+            if before != after {
+                changes.insert((step, byte, before ^ after));
+            }
+        }
+    }
+}
+
+/// The bytes of replies that a sound store may show with any content: those of
+/// the remembered reply, the counter, and attributes without a rule in both
+/// tables. A bridge that a port names may be absent, so its number is free too.
+fn free_bytes(undamaged: &[Option<Seen>], remembers: bool) -> Vec<(usize, usize)> {
+    let mut free = vec![(COUNTER_STEP, 11)];
+    if remembers {
+        free.extend((0..48).map(|byte| (1, byte)));
+    }
+    for step in FROZEN_STEPS.chain(LIVE_STEPS) {
+        let Some(seen) = &undamaged[step] else {
+            continue;
+        };
+        let number = |at: usize| u16::from_be_bytes([seen.reply[at], seen.reply[at + 1]]);
+        let (class, mask) = (number(8), number(12));
+        let Some(class) = Class::from_number(class) else {
+            continue;
+        };
+        let mut at = 14;
+        for attribute in class.attributes_of_any_product() {
+            if mask & attribute.bit() == 0 {
+                continue;
+            }
+            let any = matches!(attribute.rule, Rule::Any | Rule::Pointer(Class::BridgeProfile));
+            if any && matches!(attribute.source, Source::Stored(_)) {
+                free.extend((at..at + attribute.size).map(|byte| (step, byte)));
+            }
+            at += attribute.size;
+        }
+    }
+    free
+}
+
+// The steps of `reading_out`, behind the damage, which is step 0.
+const FROZEN_STEPS: std::ops::Range<usize> = 2..22;
+const COUNTER_STEP: usize = 27;
+const LIVE_STEPS: std::ops::Range<usize> = 29..49;
 
 fn with_damage(at: usize, xor: u8, reading: &[Step]) -> Vec<Step> {
     let mut steps = vec![Step::Damage { at, xor }];
