@@ -10,8 +10,7 @@ use Rattle.rules.specs.Bytes.{number}
 use Rattle.rules.specs.Catalogue.{fine, bad, Attribute}
 use Rattle.rules.specs.WellFormed.{asks-nothing}
 use Rattle.rules.specs.Products.{from_to_, one-of, ont-data-class, uni-class, uni-more, bridge-class, bridge-more, computing-products}
-use Rattle.rules.proofs.Laws.{not-true, both}
-use Rattle.catalogues.proofs.Each.{_&_}
+use Rattle.rules.proofs.Laws.{_&_, not-true, both}
 use Rattle.catalogues.proofs.Plain.{Plain, free, judged, carried, EachPlain, is-copied}
 
 -- ---- rules that look at their own content alone

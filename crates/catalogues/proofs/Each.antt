@@ -8,11 +8,6 @@ use Rattle.rules.specs.Catalogue.{Attribute, Class, Catalogue, class, known, at
 use Rattle.rules.proofs.MapLaws.{Each, each-find}
 use Rattle.rules.proofs.Lookups.{known-class, known-attribute, supported-known}
 
--- statements one after another, written without brackets
-infixr 2 _&_
-abbrev pub _&_ : {A B : Type 0} → A → B → A × B
-_&_ a b = (a, b)
-
 module _ (cat : Catalogue) where
   pub each-class : (P : ℕ → Class → Type 0) → Each P (cat .classes) → (c : ℕ) → known cat c ≡ true → P c (class cat c)
   each-class P h c t = each-find P (cat .classes) h c (class cat c) (known-class cat c t)

@@ -13,11 +13,11 @@ use Rattle.rules.specs.WellFormed.{carried-bytes, computing-well-formed}
 use Rattle.rules.specs.Extends.{Agree, AttributeExtends, SameCreation, added-carried, ClassExtends, Extends, computing-extends}
 use Rattle.rules.specs.Run.{computing-rules}
 use Rattle.rules.specs.Products.{uni-more, bridge-more, port-more, Small, Large, computing-products}
-use Rattle.rules.proofs.Laws.{cases, never, or-cases, eqb-eq, find-some}
+use Rattle.rules.proofs.Laws.{_&_, cases, never, or-cases, eqb-eq, find-some}
 use Rattle.rules.proofs.MapLaws.{none-some, Each, each-find}
 use Rattle.rules.proofs.Lookups.{found-attribute}
 use Rattle.rules.proofs.Verdicts.{passes-later}
-use Rattle.catalogues.proofs.Each.{_&_, each-class}
+use Rattle.catalogues.proofs.Each.{each-class}
 
 -- ---- attributes that a class keeps
 

@@ -2,8 +2,8 @@
 use mathlib.Core.Path.{refl}
 use Rattle.rules.specs.Catalogue.{key}
 use Rattle.rules.specs.WellFormed.{WellFormed}
+use Rattle.rules.proofs.Laws.{_&_}
 use Rattle.rules.proofs.Limits.{full-class, Probe, computing-probe}
-use Rattle.catalogues.proofs.Each.{_&_}
 use Rattle.catalogues.proofs.Plain.{free, AllPlain}
 use Rattle.catalogues.proofs.Attributes.{carried-plain, ont-data-plain}
 use Rattle.catalogues.proofs.WellFormed.{well-formed, testing}

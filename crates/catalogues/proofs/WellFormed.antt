@@ -5,13 +5,13 @@ use mathlib.Core.Path.{_≡_, refl}
 use mathlib.Core.Bool.{Bool, true}
 use mathlib.Core.List.{[], _∷_}
 use lib.Dec.{leb}
-use Rattle.rules.specs.Maps.{_and_, keys, every, rising}
+use Rattle.rules.specs.Maps.{_and_, keys, every, rising, among}
 use Rattle.rules.specs.Catalogue.{Attribute, automatic, Class, Catalogue, class, attribute, key, ont-data}
 use Rattle.rules.specs.WellFormed.{numbered-1-to-16, of-1-to-25-bytes, rights-only-if-stored, never-W-and-L, no-automatic-if-created, carries-at-most-32, reset-of-class-2-only, read-in-one-of-two-ways, comes-with-a-created-one, class-number-in-two-bytes, attributes-rise, automatic-numbers-rise, alarms-in-a-bitmap, unkept-has-its-own-bit, C-only-if-created, created-by-Create, IsCounter, WellFormed, computing-well-formed}
+use Rattle.rules.specs.Messages.{reset-number}
 use Rattle.rules.specs.Run.{computing-rules}
 use Rattle.rules.specs.Products.{ont-data-class, uni-more, profile-class, bridge-more, port-class, port-more, Small, Large, computing-products}
-use Rattle.rules.proofs.Laws.{both}
-use Rattle.catalogues.proofs.Each.{_&_}
+use Rattle.rules.proofs.Laws.{_&_, both}
 use Rattle.catalogues.proofs.Uploads.{most-sections, sections-of-each, short-uploads}
 use Rattle.catalogues.proofs.AlarmWalks.{alarms-between, short-walks}
 use Rattle.catalogues.proofs.Plain.{AllPlain, first-content-fits, L-alone, firsts-legal}
@@ -63,6 +63,10 @@ instance-0-alone : (k : Class) → k ≡ ont-data-class → k .creation ≡ auto
 unfolding computing-products
 instance-0-alone k e = rw e
 
+can-be-reset : (k : Class) → k ≡ ont-data-class → among reset-number (k .commands) ≡ true
+unfolding computing-rules computing-products
+can-be-reset k e = rw e refl
+
 pub well-formed : (cat : Catalogue) (lo hi : ℕ) → class cat ont-data ≡ ont-data-class → AllPlain cat
     → attribute-tests cat ≡ true → class-tests cat ≡ true → walk-tests lo hi cat ≡ true → WellFormed cat
 unfolding attribute-tests class-tests walk-tests
@@ -82,6 +86,7 @@ well-formed cat lo hi two plain attributes classes walks =
       create-fits = c₈ .0;
       class-2-has-instance-0-alone = instance-0-alone (class cat ont-data) two;
       class-2-has-the-counter = counter-is (class cat ont-data) two;
+      class-2-has-reset = can-be-reset (class cat ont-data) two;
       reset-is-class-2-s = c₁₀ .0;
       first-contents-are-legal = firsts-legal cat plain (a₆ .1);
       L-looks-at-its-own-alone = L-alone cat plain;

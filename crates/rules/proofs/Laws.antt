@@ -11,6 +11,11 @@ use lib.Dec.{T, eqb, ltb, leb, leb→le, nleb→lt, le→leb, ltb→lt, nltb→l
 use mir.Facts.{eqb-no, no-eqb, yes-eqb, yes-ltb, no-ltb}
 use Rattle.rules.specs.Maps.{_and_, _or_, Map, given, put-if, is-some, find, has, keys, put, keep, remove, every, each, gather, at-key, rising, among, distinct, all, same, those}
 
+-- statements one after another, written without brackets
+infixr 2 _&_
+abbrev pub _&_ : {A B : Type 0} → A → B → A × B
+_&_ a b = (a, b)
+
 -- ---- tests
 
 -- both ways a test can come out, as equations to rewrite with

@@ -159,6 +159,7 @@ pub record WellFormed (cat : Catalogue) : Type 0 where
   pub create-fits : every-class carries-at-most-32 cat
   pub class-2-has-instance-0-alone : class cat ont-data .creation ≡ automatic (0 ∷ [])
   pub class-2-has-the-counter : IsCounter (attribute (class cat ont-data) 1)
+  pub class-2-has-reset : among reset-number (class cat ont-data .commands) ≡ true
   pub reset-is-class-2-s : every-class reset-of-class-2-only cat
   pub first-contents-are-legal : (c n : ℕ) → supported (class cat c) n ≡ true → attribute (class cat c) n .C ≡ false
       → FirstIsLegal cat c (attribute (class cat c) n) (attribute (class cat c) n .source)
