@@ -30,7 +30,7 @@ use Rattle.kept.proofs.Holds.{There, holds-there, there-holds, entry-legal, has
 use Rattle.kept.proofs.NewContents.{C-is-stored}
 use Rattle.kept.proofs.CommandsKept.{delete-good}
 use Rattle.demands.proofs.DemandOne.{sent}
-use Rattle.demands.proofs.Refused.{the-result-is-byte-8}
+use Rattle.kept.proofs.ReplyBytes.{the-result-is-byte-8}
 use Rattle.demands.proofs.AccidentOnBytes.{IsNoRepeat, answered-anew}
 use Rattle.demands.proofs.Sets.{changed-entries, others-stay, named-change, number-one, counter-is-there}
 

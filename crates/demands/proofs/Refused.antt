@@ -1,18 +1,17 @@
 -- Demand 1's last sentence: a command that is answered with a refusal changes no entity and no counter, nor any alarm or walk; only what
 -- is remembered changes.
 use Prim.Native.Nat.{ℕ, _≤_}
-use native.Mathlib.Omega.{arith}
 use mathlib.Core.Path.{_≡_, refl, sym, _∙_, ap}
 use mathlib.Core.Bool.{true, false}
 use mathlib.Core.Option.{Option, none, some}
 use mathlib.Core.Logic.{_≢_}
-use mathlib.Core.List.{List, [], _∷_, _++_}
+use mathlib.Core.List.{List, []}
 use lib.ListN.{length}
 use Rattle.rules.specs.Maps.{_and_, _or_, given, among, same}
-use Rattle.rules.specs.Bytes.{byte, two, fill, are-bytes}
+use Rattle.rules.specs.Bytes.{byte, two, are-bytes}
 use Rattle.rules.specs.Catalogue.{Catalogue, class}
 use Rattle.rules.specs.State.{Memory, State, holds, counter}
-use Rattle.rules.specs.Messages.{message-number, class-in, instance-in, contents-in, message-drops, without-result, framed, reply-to, Answer}
+use Rattle.rules.specs.Messages.{message-number, class-in, instance-in, contents-in, message-drops, without-result, reply-to, Answer}
 use Rattle.rules.specs.Commands.{create-results, create, delete-results, delete, set-results, set, get-results, get, reset-results, reset}
 use Rattle.rules.specs.Reports.{answered}
 use Rattle.rules.specs.Run.{perform, first-results, answer, is-repeat, remember, answer-anew, answer-again, handle, message, taken}
@@ -22,6 +21,7 @@ use Rattle.store.specs.Decode.{Held, decode}
 use Rattle.store.specs.Entries.{enter}
 use Rattle.store.specs.Fitting.{AllFit}
 use Rattle.kept.proofs.Refusals.{unless-refused-is, unless-dropped-is, first-has}
+use Rattle.kept.proofs.ReplyBytes.{the-result-is-byte-8}
 use Rattle.demands.proofs.DemandOne.{sent, the-outcome-is-the-rules, the-store-holds-what-the-rules-leave}
 
 -- ---- commands
@@ -96,23 +96,6 @@ pub record SameButRemembered (s t : State) : Type 0 where
   pub alarm-numbers : t .alarm-number ≡ s .alarm-number
   pub uploads : t .upload ≡ s .upload
   pub alarm-walks : t .walk ≡ s .walk
-
-first-of-fill : (c : List ℕ) (rest : List ℕ) → byte (fill 32 c ++ rest) 0 ≡ byte c 0
-first-of-fill [] rest = refl
-first-of-fill (x ∷ c) rest = refl
-
--- byte 8 of a reply is the first of its contents
-pub the-result-is-byte-8 : (m c : List ℕ) → length m ≡ 48 → byte (reply-to m c) 8 ≡ byte c 0
-unfolding reply-to framed
-the-result-is-byte-8 (x₀ ∷ x₁ ∷ x₂ ∷ x₃ ∷ x₄ ∷ x₅ ∷ x₆ ∷ x₇ ∷ m) c e = first-of-fill c _
-the-result-is-byte-8 [] c e = absurd (omega arith)
-the-result-is-byte-8 (x₀ ∷ []) c e = absurd (omega arith)
-the-result-is-byte-8 (x₀ ∷ x₁ ∷ []) c e = absurd (omega arith)
-the-result-is-byte-8 (x₀ ∷ x₁ ∷ x₂ ∷ []) c e = absurd (omega arith)
-the-result-is-byte-8 (x₀ ∷ x₁ ∷ x₂ ∷ x₃ ∷ []) c e = absurd (omega arith)
-the-result-is-byte-8 (x₀ ∷ x₁ ∷ x₂ ∷ x₃ ∷ x₄ ∷ []) c e = absurd (omega arith)
-the-result-is-byte-8 (x₀ ∷ x₁ ∷ x₂ ∷ x₃ ∷ x₄ ∷ x₅ ∷ []) c e = absurd (omega arith)
-the-result-is-byte-8 (x₀ ∷ x₁ ∷ x₂ ∷ x₃ ∷ x₄ ∷ x₅ ∷ x₆ ∷ []) c e = absurd (omega arith)
 
 module _ (cat : Catalogue) (s : State) (m : List ℕ) (other : among (message-number m) without-result ≡ false) where
   same-state : SameButRemembered s s

@@ -31,8 +31,9 @@ use Rattle.kept.proofs.Tables.{LegalEntry, LegalLive}
 use Rattle.kept.proofs.Contents.{LegalContents}
 use Rattle.kept.proofs.Holds.{There, holds-there, find-in-automatic, entry-legal}
 use Rattle.kept.proofs.Counter.{contents-legal}
+use Rattle.kept.proofs.ReplyBytes.{the-result-is-byte-8}
+use Rattle.extending.proofs.Cuts.{cut-none}
 use Rattle.demands.proofs.DemandOne.{sent}
-use Rattle.demands.proofs.Refused.{the-result-is-byte-8}
 use Rattle.demands.proofs.AccidentOnBytes.{IsNoRepeat, answered-anew}
 
 -- ---- the contents after a change of one instance
@@ -122,11 +123,6 @@ module _ (cat : Catalogue) (t : Table) (c i : ℕ) (new : Contents) where
   named-change n w e h = ap (content n) (contents-here cat t c i (overwrite new) refl) ∙ content-put new (contents cat t c i) n w e h
 
 -- ---- what a Set carries
-
-pub cut-none : (size : ℕ → ℕ) (l v : List ℕ) (n : ℕ) → among n l ≡ false → find n (cut size l v) ≡ none
-unfolding cut find among
-cut-none size [] v n h = refl
-cut-none size (x ∷ l) v n h = let g = or-none h in rw (g .0) (cut-none size l (drop (size x) v) n (g .1))
 
 pub cut-some : (size : ℕ → ℕ) (l v : List ℕ) (n : ℕ) → among n l ≡ true → has n (cut size l v) ≡ true
 cut-some size l v n h = has-among n (cut size l v) ∙ ap (among n) (keys-cut size l v) ∙ h

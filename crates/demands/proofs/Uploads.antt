@@ -23,6 +23,8 @@ use Rattle.rules.proofs.Families.{classes-found}
 use Rattle.kept.proofs.Tables.{LegalTable, open-table, close-table, frozen-legal}
 use Rattle.kept.proofs.Counter.{stored-value}
 use Rattle.kept.proofs.LegalStates.{open-state}
+use Rattle.extending.proofs.Cuts.{total-append}
+use Rattle.extending.proofs.Sections.{sections-put-together-are-all}
 
 -- ---- lists gathered from lists
 
@@ -67,15 +69,6 @@ shown-by l = gather (λ p. map (λ n. (p .of-class, p .of-instance, n)) (p .show
 unfoldable pub all-attributes : Catalogue → Table → List (ℕ × ℕ × ℕ)
 all-attributes cat t = gather (λ e. gather (λ i. map (λ n. (e .0, i, n)) (keys (e .1 .attributes))) (instances-of (e .0) (e .1) t)) (cat .classes)
 
--- Cut into sections, whatever the sizes are, attributes stay what they were, in their order.
-pub sections-put-together-are-all : (size : ℕ → ℕ) (now l : List ℕ) → gather (λ x. x) (sections-from size now l) ≡ now ++ l
-unfolding sections-from gather
-sections-put-together-are-all size [] [] = refl
-sections-put-together-are-all size (x ∷ now) [] = rw (le-leb 1 (suc (length now)) (omega arith)) refl
-sections-put-together-are-all size now (n ∷ l) = cases (leb (total size now + size n) 26)
-    (λ u. rw u (sections-put-together-are-all size (now ++ n ∷ []) l ∙ append-assoc now (n ∷ []) l))
-    (λ u. rw u (ap (λ (y : List ℕ). now ++ y) (sections-put-together-are-all size (n ∷ []) l)))
-
 -- What the sections show is the list of every attribute of every instance, by class, then number, then attribute, each taken once: in any
 -- catalogue, of any table. (That no attribute is in that list twice is proved in UploadsOnce.)
 pub each-attribute-is-shown-once : (cat : Catalogue) (t : Table) → shown-by (sections cat t) ≡ all-attributes cat t
@@ -98,11 +91,6 @@ each-attribute-is-shown-once cat t =
     cuts e i = map (λ l. record { of-class = e .0; of-instance = i; shows = l }) (sections-of (e .1))
 
 -- ---- what fits
-
-total-append : (size : ℕ → ℕ) (l m : List ℕ) → total size (l ++ m) ≡ total size l + total size m
-unfolding total
-total-append size [] m = omega arith
-total-append size (n ∷ l) m = let h = total-append size l m in omega arith
 
 module _ (size : ℕ → ℕ) where
   -- it shows something, in at most 26 bytes

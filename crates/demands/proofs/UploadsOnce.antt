@@ -13,7 +13,7 @@ use Rattle.rules.specs.State.{Entry, Table, State, class-of, number-of, entries
 use Rattle.rules.specs.Legal.{legal-entry, automatic-keys, legal-state}
 use Rattle.rules.specs.Walks.{instances-of, sections, frozen}
 use Rattle.rules.specs.WellFormed.{WellFormed, attributes-rise}
-use Rattle.rules.proofs.Laws.{cases, never, true-false, false-not, or-none, true-and, and-true, bool-eq, eqb-true, eqb-false, eqb-eq, eqb-ne, all-among, every-find, find-some, has-among}
+use Rattle.rules.proofs.Laws.{cases, never, true-false, false-not, or-none, true-and, and-true, eqb-true, eqb-false, eqb-eq, eqb-ne, all-among, every-find, find-some, has-among}
 use Rattle.rules.proofs.MapLaws.{some-eq, none-some, Up, up-weaken, rising-up, up-among, among-past}
 use Rattle.rules.proofs.Lookups.{known-class, class-says, supported-known}
 use Rattle.rules.proofs.Families.{family-has, alone}
@@ -21,6 +21,7 @@ use Rattle.rules.proofs.Standing.{key-class, automatic-keys-stand, stands-not-c
 use Rattle.kept.proofs.Tables.{LegalEntry, open-entry, LegalTable, frozen-legal}
 use Rattle.kept.proofs.Holds.{There, holds-there, there-holds, Known, holds-known, found-in, find-in-automatic, find-in-created}
 use Rattle.kept.proofs.LegalStates.{open-state}
+use Rattle.extending.proofs.Sections.{number-key}
 use Rattle.demands.proofs.Creates.{find-keep}
 use Rattle.demands.proofs.Uploads.{shown-by, all-attributes, each-attribute-is-shown-once}
 
@@ -58,13 +59,6 @@ keys-append [] m = refl
 keys-append (x ∷ l) m = ap (λ (y : List ℕ). x .0 ∷ y) (keys-append l m)
 
 -- ---- the instances of a class
-
-number-key : (d i j : ℕ) → i < 65536 → eqb (class-of j) d ≡ true → eqb i (number-of j) ≡ eqb (key d i) j
-number-key d i j small u =
-    let z : class-of j ≡ d = eqb-eq (class-of j) d u in
-    bool-eq (eqb i (number-of j)) (eqb (key d i) j)
-    (λ e. let y : i ≡ number-of j = eqb-eq i (number-of j) e in eqb-true (key d i) j (omega arith))
-    (λ e. let y : key d i ≡ j = eqb-eq (key d i) j e in eqb-true i (number-of j) (omega arith))
 
 times-numbers : {A : Type 0} (d i : ℕ) → i < 65536 → (m : Map A) → times i (map number-of (keys (keep (λ j e. eqb (class-of j) d) m))) ≡ times (key d i) (keys m)
 unfolding times keys keep

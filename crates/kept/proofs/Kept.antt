@@ -39,6 +39,11 @@ OfBytes (message m) = are-bytes m ≡ true
 OfBytes (attribute-report c i n v) = are-bytes v ≡ true
 OfBytes (alarm-report c i n on) = Unit {0}
 
+-- every input of a run is bytes
+abbrev pub AllOfBytes : List Input → Type 0
+AllOfBytes [] = Unit {0}
+AllOfBytes (p ∷ l) = OfBytes (p .call) × AllOfBytes l
+
 -- an outcome that leaves a legal state, and sends 48 bytes or nothing
 abbrev pub SentIsAMessage : Outcome → Type 0
 SentIsAMessage (dropped n) = Unit {0}
@@ -242,11 +247,6 @@ module _ (cat : Catalogue) (wf : WellFormed cat) where
 
   pub every-answer-is-48-bytes : (s : State) → legal-state cat s ≡ true → (p : Input) → OfBytes (p .call) → SentIsAMessage (step cat s p .1)
   every-answer-is-48-bytes s h p b = step-fine s (open-state cat wf s h) p b .its-message
-
-  -- every input of a run is bytes
-  abbrev pub AllOfBytes : List Input → Type 0
-  AllOfBytes [] = Unit {0}
-  AllOfBytes (p ∷ l) = OfBytes (p .call) × AllOfBytes l
 
   pub every-run-keeps-the-state-legal : (s : State) (l : List Input) → legal-state cat s ≡ true → AllOfBytes l → legal-state cat (after cat s l) ≡ true
   unfolding after

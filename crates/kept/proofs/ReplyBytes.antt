@@ -89,3 +89,20 @@ memory-legal m r hm hr e = and-true
     (and-true (bytes-take 40 m (hm .its-bytes))
     (and-true (rw (getD-take 40 m 3 0 (omega arith), getD-take 40 m 2 0 (omega arith), getD-take 40 m 0 0 (omega arith), getD-take 40 m 1 0 (omega arith), e) refl)
     (and-true (eqb-true (length r) 48 (hr .its-length)) (hr .its-bytes))))
+
+first-of-fill : (c : List ℕ) (rest : List ℕ) → byte (fill 32 c ++ rest) 0 ≡ byte c 0
+first-of-fill [] rest = refl
+first-of-fill (x ∷ c) rest = refl
+
+-- byte 8 of a reply is the first of its contents
+pub the-result-is-byte-8 : (m c : List ℕ) → length m ≡ 48 → byte (reply-to m c) 8 ≡ byte c 0
+unfolding reply-to framed
+the-result-is-byte-8 (x₀ ∷ x₁ ∷ x₂ ∷ x₃ ∷ x₄ ∷ x₅ ∷ x₆ ∷ x₇ ∷ m) c e = first-of-fill c _
+the-result-is-byte-8 [] c e = absurd (omega arith)
+the-result-is-byte-8 (x₀ ∷ []) c e = absurd (omega arith)
+the-result-is-byte-8 (x₀ ∷ x₁ ∷ []) c e = absurd (omega arith)
+the-result-is-byte-8 (x₀ ∷ x₁ ∷ x₂ ∷ []) c e = absurd (omega arith)
+the-result-is-byte-8 (x₀ ∷ x₁ ∷ x₂ ∷ x₃ ∷ []) c e = absurd (omega arith)
+the-result-is-byte-8 (x₀ ∷ x₁ ∷ x₂ ∷ x₃ ∷ x₄ ∷ []) c e = absurd (omega arith)
+the-result-is-byte-8 (x₀ ∷ x₁ ∷ x₂ ∷ x₃ ∷ x₄ ∷ x₅ ∷ []) c e = absurd (omega arith)
+the-result-is-byte-8 (x₀ ∷ x₁ ∷ x₂ ∷ x₃ ∷ x₄ ∷ x₅ ∷ x₆ ∷ []) c e = absurd (omega arith)
