@@ -10,3 +10,6 @@ pub mod Resets
 pub mod Uploads
 pub mod UploadsOnce
 pub mod Worthless
+pub mod RunsOnBytes
+pub mod DemandThree
+pub mod DemandThreeExample
