@@ -1,6 +1,7 @@
 //! A pair of engines with the run that led to its state.
 
-use crate::message::{Maker, CREATE, DELETE, GET_ALL_ALARMS, SET, UPLOAD};
+use exchange::{Maker, BRIDGE, CREATE, DELETE, GET_ALL_ALARMS, SET, UPLOAD};
+
 use crate::pair::{Pair, Seen};
 use crate::run::Failure;
 use crate::step::{Call, Step};
@@ -45,10 +46,10 @@ impl Bench {
             Call::handle(&maker.command(UPLOAD, 2, 0, &[])),
             Call::handle(&maker.command(GET_ALL_ALARMS, 2, 0, &[])),
             Call::report_attribute(11, 0x0101, 6, &[1]),
-            Call::handle(&maker.command(CREATE, 45, 0x0044, &crate::message::BRIDGE)),
+            Call::handle(&maker.command(CREATE, 45, 0x0044, &BRIDGE)),
         ] {
             let seen = bench.call(call)?;
-            bench.demand(matches!(seen.number, 0 | 255), "the furnishing must succeed")?;
+            bench.demand(seen.is_taken(), "the furnishing must succeed")?;
         }
         Ok(bench)
     }
@@ -60,6 +61,16 @@ impl Bench {
     /// Makes a call of both engines.
     pub fn call(&mut self, call: Call) -> Result<Seen, Failure> {
         Ok(self.step(call.into())?.expect("a call is seen"))
+    }
+
+    /// Sends a command with the maker's next id.
+    pub fn send(
+        &mut self,
+        maker: &mut Maker,
+        (number, class, instance): (u8, u16, u16),
+        contents: &[u8],
+    ) -> Result<Seen, Failure> {
+        self.call(Call::handle(&maker.command(number, class, instance, contents)))
     }
 
     /// Takes a step.

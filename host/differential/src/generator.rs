@@ -5,12 +5,12 @@
 //! instances that are there. What it believes decides only what is tried, never
 //! what is right.
 
-use ordinary_engine::catalogue::{Attribute, Class, Product, Rule};
-
-use crate::message::{
+use exchange::{
     command, ALARMS_NEXT, CLASSES, CREATE, DELETE, GET, GET_ALL_ALARMS, RESET, SET, UPLOAD,
     UPLOAD_NEXT,
 };
+use ordinary_engine::catalogue::{Attribute, Class, Product, Rule};
+
 use crate::pair::Seen;
 use crate::random::Random;
 use crate::step::{Call, Lent};

@@ -14,7 +14,6 @@ mod bench;
 mod generator;
 mod guarded;
 mod kinds;
-mod message;
 mod pair;
 mod proved;
 mod random;

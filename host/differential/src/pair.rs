@@ -2,6 +2,9 @@
 
 use std::sync::atomic::{AtomicU64, Ordering};
 
+use ordinary_engine::Test::Soundness;
+use ordinary_engine::{handle, power_on, report_alarm, report_attribute, STORE_SIZE};
+
 use crate::proved;
 use crate::random::Random;
 use crate::step::{hex, outcome_in_words, Call, Step};
@@ -30,6 +33,16 @@ impl Seen {
     /// The result byte of a reply.
     pub fn result(&self) -> u8 {
         self.reply[8]
+    }
+
+    /// Whether a command was answered and carried out.
+    pub fn is_done(&self) -> bool {
+        self.number == 0 && self.result() == 0
+    }
+
+    /// Whether the call wasn't dropped.
+    pub fn is_taken(&self) -> bool {
+        matches!(self.number, 0 | 255)
     }
 
     /// The contents of a reply.
@@ -81,8 +94,8 @@ impl Pair {
         let mut noise = Random::new(0x6E6F_6973);
         Pair {
             id,
-            proved: noise.bytes(proved::store_size()),
-            ordinary: noise.bytes(ordinary_engine::STORE_SIZE),
+            proved: noise.bytes(proved_engine::store_size()),
+            ordinary: noise.bytes(STORE_SIZE),
             noise,
             damaged: false,
             shown_sound: None,
@@ -259,14 +272,14 @@ struct Called {
 }
 
 fn call_ordinary(call: &Call, store: &mut [u8], reply: &mut [u8]) -> u8 {
-    match call {
-        Call::PowerOn { product, .. } => ordinary_engine::power_on(store, *product),
-        Call::Handle { message, .. } => ordinary_engine::handle(store, message, reply),
-        Call::ReportAttribute { class, instance, attribute, content, .. } => {
-            ordinary_engine::report_attribute(store, *class, *instance, *attribute, content, reply)
+    match *call {
+        Call::PowerOn { product, .. } => power_on(store, product),
+        Call::Handle { ref message, .. } => handle(Soundness, store, message, reply),
+        Call::ReportAttribute { class, instance, attribute, ref content, .. } => {
+            report_attribute(Soundness, store, class, instance, attribute, content, reply)
         }
         Call::ReportAlarm { class, instance, alarm, on, .. } => {
-            ordinary_engine::report_alarm(store, *class, *instance, *alarm, *on, reply)
+            report_alarm(Soundness, store, class, instance, alarm, on, reply)
         }
     }
 }
@@ -296,7 +309,7 @@ fn check_untouched(
     size: usize,
     blank: &[u8],
 ) -> Result<(), String> {
-    let dropped = !matches!(seen.number, 0 | 255);
+    let dropped = !seen.is_taken();
     if dropped && lent != left {
         let at = first_difference(lent, left);
         return Err(format!("{} changed byte {at} of the store", outcome_in_words(seen.number)));

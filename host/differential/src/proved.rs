@@ -1,50 +1,11 @@
-//! The proved engine, through the C interface of its static library. This is
-//! the only place with unsafe code.
+//! The proved engine, called by its C interface: the lent bytes stand between
+//! guard bytes, which no slice could say. This is the only place with unsafe
+//! code.
+
+use proved_engine::c;
 
 use crate::guarded::Guarded;
 use crate::step::Call;
-
-mod library {
-    extern "C" {
-        pub fn gwz_store_size() -> usize;
-        pub fn gwz_power_on(store: *mut u8, store_len: usize, product: u8) -> u8;
-        pub fn gwz_handle(
-            store: *mut u8,
-            store_len: usize,
-            message: *const u8,
-            message_len: usize,
-            reply: *mut u8,
-            reply_len: usize,
-        ) -> u8;
-        pub fn gwz_report_attribute(
-            store: *mut u8,
-            store_len: usize,
-            class_id: u16,
-            instance: u16,
-            attribute: u8,
-            content: *const u8,
-            content_len: usize,
-            reply: *mut u8,
-            reply_len: usize,
-        ) -> u8;
-        pub fn gwz_report_alarm(
-            store: *mut u8,
-            store_len: usize,
-            class_id: u16,
-            instance: u16,
-            alarm: u8,
-            on: u8,
-            reply: *mut u8,
-            reply_len: usize,
-        ) -> u8;
-    }
-}
-
-/// The length of a store.
-pub fn store_size() -> usize {
-    // SAFETY: the function takes nothing and only returns a number.
-    unsafe { library::gwz_store_size() }
-}
 
 /// What a call left behind.
 pub struct Left {
@@ -79,17 +40,15 @@ fn make(call: &Call, store: &mut Guarded, input: &mut Guarded, reply: &mut Guard
     // as long as is said, and no pointer is null.
     unsafe {
         match *call {
-            Call::PowerOn { product, .. } => library::gwz_power_on(store_at, store_len, product),
+            Call::PowerOn { product, .. } => c::gwz_power_on(store_at, store_len, product),
             Call::Handle { .. } => {
-                library::gwz_handle(store_at, store_len, input_at, input_len, reply_at, reply_len)
+                c::gwz_handle(store_at, store_len, input_at, input_len, reply_at, reply_len)
             }
-            Call::ReportAttribute { class, instance, attribute, .. } => {
-                library::gwz_report_attribute(
-                    store_at, store_len, class, instance, attribute, input_at, input_len, reply_at,
-                    reply_len,
-                )
-            }
-            Call::ReportAlarm { class, instance, alarm, on, .. } => library::gwz_report_alarm(
+            Call::ReportAttribute { class, instance, attribute, .. } => c::gwz_report_attribute(
+                store_at, store_len, class, instance, attribute, input_at, input_len, reply_at,
+                reply_len,
+            ),
+            Call::ReportAlarm { class, instance, alarm, on, .. } => c::gwz_report_alarm(
                 store_at,
                 store_len,
                 class,

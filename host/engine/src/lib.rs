@@ -45,21 +45,25 @@ pub fn power_on(store: &mut [u8], product: u8) -> u8 {
     number_of(Store::fresh(store, product).map(|_| Sent::Message))
 }
 
-/// Answers one message from the exchange.
-pub fn handle(store: &mut [u8], message: &[u8], reply: &mut [u8]) -> u8 {
-    number_of(try_handle(store, message, reply, Test::Soundness))
+/// How much of a lent store is tested before it is used.
+#[derive(Clone, Copy, Debug, PartialEq, Eq)]
+pub enum Test {
+    /// Whether it encodes a state, as document 01 asks for.
+    Soundness,
+    /// Whether it is long enough and names a product. It exists to measure what
+    /// the test of soundness costs: on an unsound store the answer then means
+    /// nothing, and the call may panic.
+    LengthOnly,
 }
 
-/// As [`handle`], but trusts the store to be sound if it is long enough.
-///
-/// It exists to measure what the soundness test costs. On an unsound store the
-/// answer means nothing and the call may panic.
-pub fn handle_unchecked(store: &mut [u8], message: &[u8], reply: &mut [u8]) -> u8 {
-    number_of(try_handle(store, message, reply, Test::LengthOnly))
+/// Answers one message from the exchange.
+pub fn handle(test: Test, store: &mut [u8], message: &[u8], reply: &mut [u8]) -> u8 {
+    number_of(try_handle(test, store, message, reply))
 }
 
 /// Writes one attribute that local reports may write.
 pub fn report_attribute(
+    test: Test,
     store: &mut [u8],
     class_id: u16,
     instance: u16,
@@ -67,27 +71,14 @@ pub fn report_attribute(
     content: &[u8],
     reply: &mut [u8],
 ) -> u8 {
-    number_of(try_report(store, reply, Test::Soundness, |store| {
-        reports::attribute(store, class_id, instance, attribute, content)
-    }))
-}
-
-/// As [`report_attribute`], but trusts the store as [`handle_unchecked`] does.
-pub fn report_attribute_unchecked(
-    store: &mut [u8],
-    class_id: u16,
-    instance: u16,
-    attribute: u8,
-    content: &[u8],
-    reply: &mut [u8],
-) -> u8 {
-    number_of(try_report(store, reply, Test::LengthOnly, |store| {
+    number_of(try_report(test, store, reply, |store| {
         reports::attribute(store, class_id, instance, attribute, content)
     }))
 }
 
 /// Raises or clears one alarm.
 pub fn report_alarm(
+    test: Test,
     store: &mut [u8],
     class_id: u16,
     instance: u16,
@@ -95,30 +86,9 @@ pub fn report_alarm(
     on: bool,
     reply: &mut [u8],
 ) -> u8 {
-    number_of(try_report(store, reply, Test::Soundness, |store| {
+    number_of(try_report(test, store, reply, |store| {
         reports::alarm(store, class_id, instance, alarm, on)
     }))
-}
-
-/// As [`report_alarm`], but trusts the store as [`handle_unchecked`] does.
-pub fn report_alarm_unchecked(
-    store: &mut [u8],
-    class_id: u16,
-    instance: u16,
-    alarm: u8,
-    on: bool,
-    reply: &mut [u8],
-) -> u8 {
-    number_of(try_report(store, reply, Test::LengthOnly, |store| {
-        reports::alarm(store, class_id, instance, alarm, on)
-    }))
-}
-
-/// How much of a lent store is tested before it is used.
-#[derive(Clone, Copy)]
-enum Test {
-    Soundness,
-    LengthOnly,
 }
 
 /// What an entry that wasn't dropped has done with the reply buffer.
@@ -136,26 +106,26 @@ fn number_of(outcome: Result<Sent, Drop>) -> u8 {
 }
 
 fn try_handle(
+    test: Test,
     store: &mut [u8],
     message: &[u8],
     reply: &mut [u8],
-    test: Test,
 ) -> Result<Sent, Drop> {
     let room = reply_room(reply)?;
-    let mut store = open(store, test)?;
+    let mut store = open(test, store)?;
     let command = Command::read(message)?;
     *room = commands::answer(&mut store, &command);
     Ok(Sent::Message)
 }
 
 fn try_report(
+    test: Test,
     store: &mut [u8],
     reply: &mut [u8],
-    test: Test,
     report: impl FnOnce(&mut Store) -> Result<Option<[u8; MESSAGE_SIZE]>, Drop>,
 ) -> Result<Sent, Drop> {
     let room = reply_room(reply)?;
-    let mut store = open(store, test)?;
+    let mut store = open(test, store)?;
     Ok(match report(&mut store)? {
         Some(notification) => {
             *room = notification;
@@ -170,7 +140,7 @@ fn reply_room(reply: &mut [u8]) -> Result<&mut [u8; MESSAGE_SIZE], Drop> {
     reply.first_chunk_mut().ok_or(Drop::ReplyTooShort)
 }
 
-fn open(store: &mut [u8], test: Test) -> Result<Store<'_>, Drop> {
+fn open(test: Test, store: &mut [u8]) -> Result<Store<'_>, Drop> {
     match test {
         Test::Soundness => Store::open(store),
         Test::LengthOnly => Store::trust(store),

@@ -3,9 +3,8 @@
 mod bench;
 
 use bench::*;
-use ordinary_engine::{
-    handle, handle_unchecked, power_on, report_alarm, report_attribute, QUIET, STORE_SIZE,
-};
+use ordinary_engine::Test::{LengthOnly, Soundness};
+use ordinary_engine::{handle, power_on, report_alarm, report_attribute, QUIET, STORE_SIZE};
 
 const BOTH: [u8; 2] = [SMALL, LARGE];
 
@@ -13,7 +12,7 @@ const BOTH: [u8; 2] = [SMALL, LARGE];
 fn repeats_are_told_by_forty_bytes() {
     for product in BOTH {
         let mut bench = Bench::new(product);
-        let first = message(7, SET, 11, 0x0101, &[0x80, 0, 1]);
+        let first = command(7, SET, 11, 0x0101, &[0x80, 0, 1]);
         let reply = bench.send(&first);
         let before = bench.store.clone();
         assert_eq!(bench.send(&first), reply);
@@ -24,8 +23,8 @@ fn repeats_are_told_by_forty_bytes() {
         assert_eq!(bench.send(&other_checksum), reply);
         assert_eq!(bench.store, before);
         // The same id with other contents is another command, padding too.
-        bench.send(&message(7, SET, 11, 0x0101, &[0x80, 0, 2]));
-        let mut padded = message(7, SET, 11, 0x0101, &[0x80, 0, 2]);
+        bench.send(&command(7, SET, 11, 0x0101, &[0x80, 0, 2]));
+        let mut padded = command(7, SET, 11, 0x0101, &[0x80, 0, 2]);
         padded[39] = 1;
         bench.send(&padded);
         assert_eq!(bench.counter(), 3);
@@ -35,18 +34,18 @@ fn repeats_are_told_by_forty_bytes() {
 #[test]
 fn refusals_are_remembered_and_drops_are_not() {
     let mut bench = Bench::new(SMALL);
-    let get = message(7, GET, 45, 3, &[0x80, 0]);
+    let get = command(7, GET, 45, 3, &[0x80, 0]);
     let refused = bench.send(&get);
     assert_eq!(refused[8], 5);
     let remembered = bench.store.clone();
-    let mut wrong_trailer = message(8, GET, 2, 0, &[0x80, 0]);
+    let mut wrong_trailer = command(8, GET, 2, 0, &[0x80, 0]);
     wrong_trailer[43] = 0x29;
     let mut reply = [0xEE; 48];
-    assert_eq!(handle(&mut bench.store, &wrong_trailer, &mut reply), 7);
+    assert_eq!(handle(Soundness, &mut bench.store, &wrong_trailer, &mut reply), 7);
     assert_eq!(bench.store, remembered);
     assert_eq!(reply, [0xEE; 48]);
     // A report in between doesn't make the repeat a new command.
-    let get = message(9, GET, 11, 0x0101, &[0x40, 0]);
+    let get = command(9, GET, 11, 0x0101, &[0x40, 0]);
     let old = bench.send(&get);
     assert_eq!(bench.report(11, 0x0101, 2, &[5]).0, 0);
     assert_eq!(bench.send(&get), old);
@@ -130,7 +129,7 @@ fn create_of_a_port_judges_every_attribute() {
         let reply = bench.command(CREATE, 47, 1, contents);
         (reply[0], u16::from_be_bytes([reply[1], reply[2]]))
     };
-    let good = port_of(3);
+    let good = port_contents(3);
     for product in BOTH {
         assert_eq!(bad(product, &good), (0, 0));
         assert_eq!(bad(product, &[0, 4, 0, 1, 9, 9, 1, 0, 0, 0, 2, 2, 2]), (3, 0x9F80));
@@ -294,7 +293,7 @@ fn reports_are_dropped_in_order() {
 
 #[test]
 fn messages_are_dropped_in_order() {
-    let good = message(1, GET, 2, 0, &[0x80, 0]);
+    let good = command(1, GET, 2, 0, &[0x80, 0]);
     // Each spoils the message in a way that a lower number finds too, from the
     // last number to the first.
     type Spoiler = (u8, fn(&mut Vec<u8>));
@@ -311,22 +310,22 @@ fn messages_are_dropped_in_order() {
     for (drop, spoil) in spoilers {
         spoil(&mut spoiled);
         let mut reply = [0xEE; 60];
-        assert_eq!(handle(&mut bench.store, &spoiled, &mut reply), drop);
+        assert_eq!(handle(Soundness, &mut bench.store, &spoiled, &mut reply), drop);
         assert_eq!(reply, [0xEE; 60]);
     }
     assert_eq!(bench.store, before);
     let mut reply = [0xEE; 60];
     bench.store[0] = 3;
-    assert_eq!(handle(&mut bench.store, &spoiled, &mut reply), 2);
-    assert_eq!(handle(&mut bench.store, &spoiled, &mut reply[..47]), 1);
+    assert_eq!(handle(Soundness, &mut bench.store, &spoiled, &mut reply), 2);
+    assert_eq!(handle(Soundness, &mut bench.store, &spoiled, &mut reply[..47]), 1);
     bench.store[0] = 1;
-    assert_eq!(handle(&mut bench.store, &good, &mut reply[..47]), 1);
-    assert_eq!(handle(&mut bench.store[..STORE_SIZE - 1], &good, &mut reply), 2);
+    assert_eq!(handle(Soundness, &mut bench.store, &good, &mut reply[..47]), 1);
+    assert_eq!(handle(Soundness, &mut bench.store[..STORE_SIZE - 1], &good, &mut reply), 2);
     assert_eq!(reply, [0xEE; 60]);
-    assert_eq!(handle(&mut bench.store, &good, &mut reply), 0);
+    assert_eq!(handle(Soundness, &mut bench.store, &good, &mut reply), 0);
     assert_eq!(reply[48..], [0xEE; 12]);
-    assert_eq!(report_attribute(&mut bench.store, 99, 0, 0, &[], &mut reply[..47]), 1);
-    assert_eq!(report_alarm(&mut [], 99, 0, 0, true, &mut reply), 2);
+    assert_eq!(report_attribute(Soundness, &mut bench.store, 99, 0, 0, &[], &mut reply[..47]), 1);
+    assert_eq!(report_alarm(Soundness, &mut [], 99, 0, 0, true, &mut reply), 2);
 }
 
 #[test]
@@ -353,17 +352,17 @@ fn damaged_stores_are_told() {
         bench.upload();
         bench.alarm(11, 0x0101, 0, true);
         bench.alarm_walk();
-        let get = message(0x7777, GET, 2, 0, &[0x80, 0]);
+        let get = command(0x7777, GET, 2, 0, &[0x80, 0]);
         for at in 0..STORE_SIZE {
             for pattern in [0x01, 0x80, 0xFF] {
                 let mut damaged = bench.store.clone();
                 damaged[at] ^= pattern;
                 let before = damaged.clone();
                 let mut reply = [0xEE; 48];
-                match handle(&mut damaged, &get, &mut reply) {
+                match handle(Soundness, &mut damaged, &get, &mut reply) {
                     0 => {
-                        let again = message(0x7778, GET, 2, 0, &[0x80, 0]);
-                        assert_eq!(handle(&mut damaged, &again, &mut reply), 0);
+                        let again = command(0x7778, GET, 2, 0, &[0x80, 0]);
+                        assert_eq!(handle(Soundness, &mut damaged, &again, &mut reply), 0);
                     }
                     outcome => {
                         assert_eq!(outcome, 2);
@@ -394,20 +393,20 @@ fn the_order_of_commands_leaves_no_trace() {
             other.create_port(number, number);
         }
         for bench in [&mut one, &mut other] {
-            bench.send(&message(500, SET, 2, 0, &[0x80, 0, 6]));
+            bench.send(&command(500, SET, 2, 0, &[0x80, 0, 6]));
         }
         assert!(one.store == other.store);
     }
 }
 
 #[test]
-fn the_unchecked_entry_answers_alike() {
+fn a_trusted_store_is_answered_alike() {
     let mut bench = Bench::new(LARGE);
     bench.create_bridge(3);
     let mut trusted = bench.clone();
-    let set = message(77, SET, 45, 3, &[0x10, 0, 9, 9]);
+    let set = command(77, SET, 45, 3, &[0x10, 0, 9, 9]);
     let mut reply = [0; 48];
-    assert_eq!(handle_unchecked(&mut trusted.store, &set, &mut reply), 0);
+    assert_eq!(handle(LengthOnly, &mut trusted.store, &set, &mut reply), 0);
     assert_eq!(bench.send(&set), reply);
     assert!(bench.store == trusted.store);
 }

@@ -4,15 +4,15 @@
 
 use std::collections::BTreeSet;
 
+use exchange::{
+    command, Maker, ALARMS_NEXT, BRIDGE, CREATE, DELETE, GET, GET_ALL_ALARMS, RESET, SET, UPLOAD,
+    UPLOAD_NEXT,
+};
 use ordinary_engine::catalogue::{Class, Rule, Source};
 
 use super::{Options, BOTH, LARGE, SMALL};
 use crate::bench::Bench;
 use crate::generator::Generator;
-use crate::message::{
-    command, Maker, ALARMS_NEXT, BRIDGE, CREATE, DELETE, GET, GET_ALL_ALARMS, RESET, SET, UPLOAD,
-    UPLOAD_NEXT,
-};
 use crate::pair::Seen;
 use crate::random::Random;
 use crate::run::Failure;
@@ -51,7 +51,7 @@ fn full(product: u8, bridges: u16) -> Result<Bench, Failure> {
             maker.port(number * 0x0123, number % bridges * 0x0321)
         };
         let seen = bench.call(Call::handle(&message))?;
-        bench.demand(seen.number == 0 && seen.result() == 0, "a Create must be accepted")?;
+        bench.demand(seen.is_done(), "a Create must be accepted")?;
     }
     for call in [
         Call::report_attribute(46, 0x0321, 3, &[0x55; 8]),

@@ -1,9 +1,10 @@
 //! The checked examples of document 01, with the bytes that it gives. They are
 //! asked of the proved engine without regard to the ordinary one.
 
+use exchange::{Maker, BRIDGE, CREATE, GET, SET, UPLOAD, UPLOAD_NEXT};
+
 use super::{Options, BOTH, LARGE, SMALL};
 use crate::bench::Bench;
-use crate::message::{Maker, BRIDGE, CREATE, GET, SET, UPLOAD, UPLOAD_NEXT};
 use crate::run::Failure;
 use crate::step::{hex, Call};
 

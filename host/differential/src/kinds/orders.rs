@@ -1,9 +1,10 @@
 //! The same state, reached by two orders of commands and reports, must have the
 //! same bytes in the store.
 
+use exchange::{port_contents, Maker, BRIDGE, CREATE, DELETE, GET_ALL_ALARMS, SET, UPLOAD};
+
 use super::{Options, BOTH, SMALL};
 use crate::bench::Bench;
-use crate::message::{port_contents, Maker, BRIDGE, CREATE, DELETE, GET_ALL_ALARMS, SET, UPLOAD};
 use crate::random::Random;
 use crate::run::Failure;
 use crate::step::{Call, Step};
@@ -175,7 +176,7 @@ impl Way<'_> {
     fn call(&mut self, call: Call) -> Result<(), Failure> {
         let seen = self.bench.call(call)?;
         self.calls += 1;
-        self.bench.demand(matches!(seen.number, 0 | 255), "a call on the way must be accepted")
+        self.bench.demand(seen.is_taken(), "a call on the way must be accepted")
     }
 
     fn command(
@@ -185,11 +186,9 @@ impl Way<'_> {
         instance: u16,
         contents: &[u8],
     ) -> Result<(), Failure> {
-        let message = self.maker.command(number, class, instance, contents);
-        let seen = self.bench.call(Call::handle(&message))?;
+        let seen = self.bench.send(&mut self.maker, (number, class, instance), contents)?;
         self.calls += 1;
-        let done = seen.number == 0 && seen.result() == 0;
-        self.bench.demand(done, "a command on the way must be accepted")
+        self.bench.demand(seen.is_done(), "a command on the way must be accepted")
     }
 
     fn carry_out(&mut self, task: Task) -> Result<(), Failure> {

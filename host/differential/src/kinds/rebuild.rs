@@ -9,15 +9,15 @@
 
 use std::collections::BTreeMap;
 
+use exchange::{
+    command, Maker, ALARMS_NEXT, BRIDGE, CREATE, DELETE, GET, GET_ALL_ALARMS, SET, UPLOAD,
+    UPLOAD_NEXT,
+};
 use ordinary_engine::catalogue::{Attribute, Class};
 
 use super::damage::{foreign_bytes, reached};
 use super::Options;
 use crate::bench::Bench;
-use crate::message::{
-    command, Maker, ALARMS_NEXT, BRIDGE, CREATE, DELETE, GET, GET_ALL_ALARMS, SET, UPLOAD,
-    UPLOAD_NEXT,
-};
 use crate::pair::Seen;
 use crate::random::Random;
 use crate::run::Failure;
@@ -142,16 +142,16 @@ impl State {
         let mut way = Way { bench, maker: Maker::new(0x1000), shown };
         if let Some(frozen) = &self.frozen {
             way.reach(frozen)?;
-            way.command(UPLOAD, 2, 0, &[])?;
+            way.bench.send(&mut way.maker, (UPLOAD, 2, 0), &[])?;
             for (class, instance) in created(frozen) {
-                way.accepted(DELETE, class, instance, &[])?;
+                way.accepted((DELETE, class, instance), &[])?;
             }
         }
         way.reach(&self.table)?;
         for &uni in &self.raised {
             way.report(Call::report_alarm(11, uni, 0, true))?;
         }
-        way.accepted(SET, 2, 0, &[0x80, 0, self.counter])?;
+        way.accepted((SET, 2, 0), &[0x80, 0, self.counter])?;
         Ok(Some(way.bench))
     }
 }
@@ -183,8 +183,7 @@ struct Reader {
 
 impl Reader {
     fn ask(&mut self, number: u8, contents: &[u8]) -> Result<Seen, Failure> {
-        let message = self.maker.command(number, 2, 0, contents);
-        let seen = self.bench.call(Call::handle(&message))?;
+        let seen = self.bench.send(&mut self.maker, (number, 2, 0), contents)?;
         self.bench.demand(seen.number == 0, "a sound store must be answered from")?;
         Ok(seen)
     }
@@ -225,36 +224,21 @@ struct Way<'a> {
 }
 
 impl Way<'_> {
-    fn command(
-        &mut self,
-        number: u8,
-        class: u16,
-        instance: u16,
-        contents: &[u8],
-    ) -> Result<Seen, Failure> {
-        let message = self.maker.command(number, class, instance, contents);
-        self.bench.call(Call::handle(&message))
-    }
-
-    fn accepted(
-        &mut self,
-        number: u8,
-        class: u16,
-        instance: u16,
-        contents: &[u8],
-    ) -> Result<(), Failure> {
-        let seen = self.command(number, class, instance, contents)?;
-        let done = seen.number == 0 && seen.result() == 0;
+    fn accepted(&mut self, command: (u8, u16, u16), contents: &[u8]) -> Result<(), Failure> {
+        let seen = self.bench.send(&mut self.maker, command, contents)?;
+        let (_, class, instance) = command;
         self.shown.demand(
-            done,
+            seen.is_done(),
             &format!("the damaged store is taken for a state with an illegal instance {instance:#06X} of class {class}"),
         )
     }
 
     fn report(&mut self, call: Call) -> Result<(), Failure> {
         let seen = self.bench.call(call)?;
-        let done = matches!(seen.number, 0 | 255);
-        self.shown.demand(done, "the damaged store is taken for a state with an illegal content")
+        self.shown.demand(
+            seen.is_taken(),
+            "the damaged store is taken for a state with an illegal content",
+        )
     }
 
     /// From a table without created instances to this one.
@@ -267,11 +251,11 @@ impl Way<'_> {
             }
         }
         for (bridge, ports) in orphans {
-            self.accepted(CREATE, 45, bridge, &BRIDGE)?;
+            self.accepted((CREATE, 45, bridge), &BRIDGE)?;
             for port in ports {
                 self.create(47, port, table)?;
             }
-            self.accepted(DELETE, 45, bridge, &[])?;
+            self.accepted((DELETE, 45, bridge), &[])?;
         }
         for &(class, instance) in table.keys() {
             match class {
@@ -292,7 +276,7 @@ impl Way<'_> {
     fn create(&mut self, class: u16, instance: u16, table: &Table) -> Result<(), Failure> {
         let contents: Vec<u8> =
             table[&(class, instance)].values().flat_map(|value| value.iter().copied()).collect();
-        self.accepted(CREATE, class, instance, &contents)
+        self.accepted((CREATE, class, instance), &contents)
     }
 
     /// Sets and reports the attributes of an instance that is there.
@@ -315,6 +299,6 @@ impl Way<'_> {
         if mask == 0 {
             return Ok(());
         }
-        self.accepted(SET, class, instance, &[&mask.to_be_bytes(), &values[..]].concat())
+        self.accepted((SET, class, instance), &[&mask.to_be_bytes(), &values[..]].concat())
     }
 }

@@ -1,13 +1,13 @@
 //! Sweeps: one thing is varied through all or many of its values.
 
+use exchange::{
+    command, port_contents, Maker, ALARMS_NEXT, BRIDGE, CLASSES, CREATE, DELETE, GET,
+    GET_ALL_ALARMS, RESET, SET, UPLOAD, UPLOAD_NEXT,
+};
 use ordinary_engine::catalogue::{Attribute, Class, Product, Rule};
 
 use super::{Options, BOTH};
 use crate::bench::Bench;
-use crate::message::{
-    command, port_contents, Maker, ALARMS_NEXT, BRIDGE, CLASSES, CREATE, DELETE, GET,
-    GET_ALL_ALARMS, RESET, SET, UPLOAD, UPLOAD_NEXT,
-};
 use crate::random::Random;
 use crate::run::Failure;
 use crate::step::{Call, Lent, Step};
@@ -521,7 +521,7 @@ fn full(
     for &(class, instance, names) in &all {
         let message = maker.command(CREATE, class, instance, &created(class, names));
         let seen = bench.call(Call::handle(&message))?;
-        bench.demand(seen.number == 0 && seen.result() == 0, "a Create must be accepted")?;
+        bench.demand(seen.is_done(), "a Create must be accepted")?;
     }
     Ok((bench, all))
 }

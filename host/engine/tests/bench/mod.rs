@@ -2,41 +2,12 @@
 
 #![allow(dead_code)]
 
+pub use exchange::*;
+use ordinary_engine::Test::Soundness;
 use ordinary_engine::{handle, power_on, report_alarm, report_attribute, STORE_SIZE};
 
 pub const SMALL: u8 = 1;
 pub const LARGE: u8 = 2;
-
-pub const CREATE: u8 = 4;
-pub const DELETE: u8 = 6;
-pub const SET: u8 = 8;
-pub const GET: u8 = 9;
-pub const GET_ALL_ALARMS: u8 = 11;
-pub const ALARMS_NEXT: u8 = 12;
-pub const UPLOAD: u8 = 13;
-pub const UPLOAD_NEXT: u8 = 14;
-pub const RESET: u8 = 15;
-
-/// The contents of example E3, a legal Create of class 45.
-pub const BRIDGE: [u8; 11] = [1, 1, 0, 0x80, 0, 0x14, 0, 2, 0, 0x0F, 0];
-
-/// The contents of a legal Create of class 47 that names this bridge.
-pub fn port_of(bridge: u16) -> Vec<u8> {
-    let [high, low] = bridge.to_be_bytes();
-    vec![high, low, 1, 1, 0x01, 0x01, 0, 128, 0, 1, 0, 0, 0]
-}
-
-pub fn message(id: u16, number: u8, class: u16, instance: u16, contents: &[u8]) -> [u8; 48] {
-    let mut message = [0; 48];
-    message[0..2].copy_from_slice(&id.to_be_bytes());
-    message[2] = 0x40 + number;
-    message[3] = 0x0A;
-    message[4..6].copy_from_slice(&class.to_be_bytes());
-    message[6..8].copy_from_slice(&instance.to_be_bytes());
-    message[8..8 + contents.len()].copy_from_slice(contents);
-    message[40..44].copy_from_slice(&[0, 0, 0, 0x28]);
-    message
-}
 
 #[derive(Clone)]
 pub struct Bench {
@@ -54,14 +25,14 @@ impl Bench {
     /// Sends a message that must be answered, and gives the reply.
     pub fn send(&mut self, message: &[u8]) -> [u8; 48] {
         let mut reply = [0xEE; 48];
-        assert_eq!(handle(&mut self.store, message, &mut reply), 0);
+        assert_eq!(handle(Soundness, &mut self.store, message, &mut reply), 0);
         reply
     }
 
     /// Sends a command with a new id and gives the reply's contents.
     pub fn command(&mut self, number: u8, class: u16, instance: u16, contents: &[u8]) -> [u8; 32] {
         self.id += 1;
-        let reply = self.send(&message(self.id, number, class, instance, contents));
+        let reply = self.send(&command(self.id, number, class, instance, contents));
         assert_eq!(reply[0..2], self.id.to_be_bytes());
         assert_eq!(reply[2], 0x20 + number);
         assert_eq!(reply[3], 0x0A);
@@ -76,7 +47,7 @@ impl Bench {
     }
 
     pub fn create_port(&mut self, instance: u16, bridge: u16) -> u8 {
-        self.command(CREATE, 47, instance, &port_of(bridge))[0]
+        self.command(CREATE, 47, instance, &port_contents(bridge))[0]
     }
 
     pub fn get(&mut self, class: u16, instance: u16, mask: u16) -> [u8; 32] {
@@ -122,15 +93,17 @@ impl Bench {
         content: &[u8],
     ) -> (u8, [u8; 48]) {
         let mut reply = [0xEE; 48];
+        let store = &mut self.store;
         let outcome =
-            report_attribute(&mut self.store, class, instance, attribute, content, &mut reply);
+            report_attribute(Soundness, store, class, instance, attribute, content, &mut reply);
         (outcome, reply)
     }
 
     /// Reports an alarm; gives the outcome and the buffer.
     pub fn alarm(&mut self, class: u16, instance: u16, alarm: u8, on: bool) -> (u8, [u8; 48]) {
         let mut reply = [0xEE; 48];
-        let outcome = report_alarm(&mut self.store, class, instance, alarm, on, &mut reply);
+        let outcome =
+            report_alarm(Soundness, &mut self.store, class, instance, alarm, on, &mut reply);
         (outcome, reply)
     }
 }

@@ -1,5 +1,6 @@
-//! Making messages.
+//! The exchange's side: the commands that it sends, for all that calls engines.
 
+// The numbers of the messages.
 pub const CREATE: u8 = 4;
 pub const DELETE: u8 = 6;
 pub const SET: u8 = 8;
