@@ -1,0 +1,119 @@
+//! Measures the proved engine against the ordinary one, with its soundness test
+//! and without it, on a full table. What each engine replies is compared in
+//! every run that is measured.
+//!
+//! ```text
+//! speed                       ratios of times, a line for each kind of call
+//! speed --quick               every kind once, to compare the replies alone
+//! speed --stack               how deep the proved engine's functions go
+//! speed --kinds               the kinds: name, calls of a run, how often they do it, in words
+//! speed --count KIND ENGINE   one run behind a call of `counting_begins`
+//! ```
+
+mod engines;
+mod kinds;
+mod painted;
+mod rounds;
+mod subject;
+
+use std::collections::BTreeMap;
+use std::process::ExitCode;
+
+use engines::{Call, Engine};
+use kinds::{Kind, LARGE};
+use rounds::{Effort, Ratio};
+use subject::Subject;
+
+const USAGE: &str = "usage: speed [--quick | --stack | --kinds | --count KIND ENGINE]";
+
+const WHOLE: Effort = Effort { rounds: 101, turns: 12 };
+const QUICK: Effort = Effort { rounds: 1, turns: 1 };
+
+fn main() -> ExitCode {
+    let words: Vec<String> = std::env::args().skip(1).collect();
+    let words: Vec<&str> = words.iter().map(String::as_str).collect();
+    let done = match words[..] {
+        [] => compare(),
+        ["--quick"] => rounds::measure(&kinds::all(), QUICK).map(|_| ()),
+        ["--stack"] => stack(),
+        ["--kinds"] => list(),
+        ["--count", kind, engine] => count(kind, engine),
+        _ => Err(USAGE.into()),
+    };
+    match done {
+        Ok(()) => ExitCode::SUCCESS,
+        Err(why) => {
+            eprintln!("{why}");
+            ExitCode::FAILURE
+        }
+    }
+}
+
+fn compare() -> Result<(), String> {
+    let kinds = kinds::all();
+    let measured = rounds::measure(&kinds, WHOLE)?;
+    println!("{:58}{:>22}{:>22}", "", "ours / Rust checked", "ours / Rust unchecked");
+    for (kind, ratios) in kinds.iter().zip(&measured) {
+        let unchecked = if kind.does_work() { in_words(&ratios[1]) } else { "-".into() };
+        println!("{:58}{:>22}{:>22}", kind.what, in_words(&ratios[0]), unchecked);
+    }
+    Ok(())
+}
+
+fn in_words(ratio: &Ratio) -> String {
+    format!("{:.2} ({:.2} to {:.2})", ratio.median, ratio.low, ratio.high)
+}
+
+fn stack() -> Result<(), String> {
+    for (function, bytes) in deepest() {
+        println!("{function:22}{bytes:>6} bytes");
+    }
+    Ok(())
+}
+
+/// The deepest call of each exported function: power-on, what fills the table,
+/// and the calls of every kind on the full table.
+fn deepest() -> BTreeMap<&'static str, usize> {
+    let mut store = vec![0; Engine::Proved.store_size()];
+    let mut reply = [0; 48];
+    let mut depths = vec![painted::store_size(), painted::power_on(&mut store, LARGE)];
+    let mut make = |store: &mut [u8], calls: &[Call]| {
+        depths.extend(calls.iter().map(|call| painted::call(store, call, &mut reply)));
+    };
+    make(&mut store, &kinds::filling());
+    for kind in kinds::all() {
+        make(&mut store.clone(), &kind.calls);
+    }
+    let mut deepest = BTreeMap::new();
+    for depth in depths {
+        let bytes = deepest.entry(depth.function).or_insert(0);
+        *bytes = depth.bytes.max(*bytes);
+    }
+    deepest
+}
+
+fn list() -> Result<(), String> {
+    for kind in kinds::all() {
+        println!("{} {} {} {}", kind.name, kind.calls.len(), kind.times, kind.what);
+    }
+    Ok(())
+}
+
+fn count(kind: &str, engine: &str) -> Result<(), String> {
+    let kinds = kinds::all();
+    let kind: &Kind = kinds.iter().find(|one| one.name == kind).ok_or("no such kind")?;
+    let engine =
+        Engine::ALL.into_iter().find(|one| one.name() == engine).ok_or("no such engine")?;
+    let mut subject = Subject::new(engine)?;
+    subject.prepare(kind);
+    counting_begins();
+    subject.run(kind);
+    subject.check_done(kind)
+}
+
+/// A mark for whoever counts instructions: what came before is preparation.
+#[no_mangle]
+#[inline(never)]
+extern "C" fn counting_begins() {
+    std::hint::black_box(());
+}
