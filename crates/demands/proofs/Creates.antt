@@ -10,15 +10,15 @@ use lib.ListN.{length, replicate}
 use lib.Dec.{eqb}
 use Rattle.rules.specs.Maps.{_and_, _or_, Map, given, find, has, keys, keep, put, remove, each, at-key, among, gather, all, first-that-applies}
 use Rattle.rules.specs.Bytes.{byte, two, bytes, number, number-from}
-use Rattle.rules.specs.Catalogue.{Source, stored, of-creator, count-of, Class, Catalogue, class, known, attribute, family, is-stored, is-created, leader, key, ont-data}
-use Rattle.rules.specs.State.{Alarms, alarms-of, class-of, number-of, Contents, Entry, Table, State, entries, entry, holds, contents, content, read-from, read, counter, overwrite, change, with-counter, with-table}
+use Rattle.rules.specs.Catalogue.{stored, Class, Catalogue, class, known, attribute, family, is-stored, is-created, leader, key, ont-data}
+use Rattle.rules.specs.State.{Alarms, alarms-of, class-of, number-of, Contents, Entry, Table, State, entries, entry, holds, contents, content, read, counter, overwrite, change, with-counter, with-table}
 use Rattle.rules.specs.Legal.{legal-bitmap, legal-bitmaps, legal-state}
 use Rattle.rules.specs.Messages.{message-number, class-in, instance-in, contents-in, message-drops, create-number, delete-number, reply-to, next-number, with-result, Answer}
 use Rattle.rules.specs.Reports.{Outcome, answered}
 use Rattle.rules.specs.Run.{perform, first-results, answer, remember, answer-anew, handle}
-use Rattle.rules.specs.Commands.{move-counter, first-content, new-contents, new-entry, carried-by, create-results, with-created, create, goes-with, without, delete-results, delete, asked, values, get-results, get}
+use Rattle.rules.specs.Commands.{move-counter, first-content, new-contents, new-entry, carried-by, create-results, with-created, create, goes-with, without, delete-results, delete, asked, get}
 use Rattle.rules.specs.WellFormed.{WellFormed, created-by-Create}
-use Rattle.rules.proofs.Laws.{cases, never, true-false, both, not-false, false-not, and-true, or-left, or-right, eqb-true, eqb-false, eqb-eq, eqb-ne, find-each, every-find, has-among}
+use Rattle.rules.proofs.Laws.{cases, true-false, both, not-false, false-not, and-true, or-left, or-right, eqb-true, eqb-false, eqb-eq, eqb-ne, find-each, every-find, has-among}
 use Rattle.rules.proofs.MapLaws.{find-append, find-put, find-remove, find-kept}
 use Rattle.rules.proofs.Lookups.{implied, known-class, known-attribute, C-supported, created-known, class-says, leads-itself}
 use Rattle.rules.proofs.Families.{family-has}
@@ -30,6 +30,7 @@ use Rattle.kept.proofs.Holds.{There, holds-there, there-holds, entry-legal, has
 use Rattle.kept.proofs.NewContents.{C-is-stored}
 use Rattle.kept.proofs.CommandsKept.{delete-good}
 use Rattle.demands.proofs.DemandOne.{sent}
+use Rattle.demands.proofs.Gets.{read-stored, values-are, an-accepted-get-replies-what-it-names}
 use Rattle.kept.proofs.ReplyBytes.{the-result-is-byte-8}
 use Rattle.demands.proofs.AccidentOnBytes.{IsNoRepeat, answered-anew}
 use Rattle.demands.proofs.Sets.{changed-entries, others-stay, named-change, number-one, counter-is-there}
@@ -50,18 +51,6 @@ module _ {A : Type 0} (p : ℕ → Bool) where
   find-lost k (x ∷ m) h = cases (p (x .0))
       (λ q. rw (q, eqb-false k (x .0) (λ z. true-false q (ap p (sym z) ∙ h))) (find-lost k m h))
       (λ q. rw q (find-lost k m h))
-
--- ---- reading
-
--- a stored attribute is read from its instance's contents
-pub read-stored : (cat : Catalogue) (t : Table) (c i n : ℕ) → is-stored (attribute (class cat c) n .source) ≡ true → read cat t c i n ≡ content n (contents cat t c i)
-unfolding read read-from
-read-stored cat t c i n h = go (attribute (class cat c) n .source) h
-  where
-    go : (src : Source) → is-stored src ≡ true → read-from cat t c i n (attribute (class cat c) n .size) src ≡ content n (contents cat t c i)
-    go (stored f) h = refl
-    go (of-creator a) h = never h
-    go (count-of d a) h = never h
 
 -- what an entry says of an instance
 abbrev pub in-entry : ℕ → Entry → Contents
@@ -238,26 +227,15 @@ module _ (cat : Catalogue) (wf : WellFormed cat) (s : State) (legal : legal-stat
       ∙ ap (content n) new-here
       ∙ carried-content n h
 
-  values-are-carried : (l : List ℕ) → all (λ n. attribute (class cat c) n .C) l ≡ true
-      → values cat (table-after-create cat s c i v) c i l ≡ gather (λ n. content n (carried-by (class cat c) v)) l
-  unfolding values gather all
-  values-are-carried [] h = refl
-  values-are-carried (n ∷ l) h = λ k. get-after-create-gives-what-was-sent n (both h .0) k ++ values-are-carried l (both h .1) k
-
   -- So an accepted Get, with mask and contents w, of set-by-create attributes of the new instance replies 0, its mask and what the Create
   -- carried for them, one after another.
   pub the-reply-to-a-get-after-create-is-what-was-sent : (w : List ℕ) → byte (get cat (create cat s c i v .0) c i w .1) 0 ≡ 0
       → all (λ n. attribute (class cat c) n .C) (asked w) ≡ true
       → get cat (create cat s c i v .0) c i w .1 ≡ 0 ∷ bytes 2 (two w 0) ++ gather (λ n. content n (carried-by (class cat c) v)) (asked w)
-  unfolding get get-results
   the-reply-to-a-get-after-create-is-what-was-sent w ok carried =
-      let u : State = create cat s c i v .0 in
-      let lines : List (Bool × List ℕ) = get-results (holds cat (u .table) c i) (class cat c) (two w 0) in
-      unless-refused-is (λ a. byte (a .1) 0 ≡ 0 → a .1 ≡ 0 ∷ bytes 2 (two w 0) ++ values cat (u .table) c i (asked w)) u lines (u, 0 ∷ bytes 2 (two w 0) ++ values cat (u .table) c i (asked w))
-      (λ r e y. absurd (first-has (λ r. byte r 0 ≢ 0) lines
-      ((λ y. above-0 cat s c i v 4), ((λ y. above-0 cat s c i v 2), ((λ y. above-0 cat s c i v 8), ((λ y. above-0 cat s c i v 2), tt)))) r e y))
-      (λ clear y. refl) ok
-      ∙ ap (λ (l : List ℕ). 0 ∷ bytes 2 (two w 0) ++ l) (values-are-carried (asked w) carried)
+      an-accepted-get-replies-what-it-names cat (create cat s c i v .0) c i w ok
+      ∙ ap (λ (l : List ℕ). 0 ∷ bytes 2 (two w 0) ++ l) (values-are cat (table-after-create cat s c i v) c i (λ n. content n (carried-by (class cat c) v))
+      (λ n. attribute (class cat c) n .C) get-after-create-gives-what-was-sent (asked w) carried)
 
   -- After an accepted Create, the new instance is there.
   pub a-created-instance-is-there : holds cat (table-after-create cat s c i v) c i ≡ true

@@ -5,6 +5,7 @@ pub mod Accident
 pub mod AccidentOnBytes
 pub mod AccidentExample
 pub mod Sets
+pub mod Gets
 pub mod Creates
 pub mod Resets
 pub mod Uploads

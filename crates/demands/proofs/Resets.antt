@@ -28,7 +28,8 @@ use Rattle.kept.proofs.Holds.{has-each, holds-there, there-known, is-created-on
 use Rattle.kept.proofs.Counter.{with-counter-legal}
 use Rattle.demands.proofs.AccidentOnBytes.{IsNoRepeat, answered-anew}
 use Rattle.demands.proofs.Sets.{others-stay, named-change, number-one, written-is-there, counter-is-there}
-use Rattle.demands.proofs.Creates.{find-keep, find-lost, read-stored, holds-changed, above-0, answer-0}
+use Rattle.demands.proofs.Gets.{read-stored}
+use Rattle.demands.proofs.Creates.{find-keep, find-lost, holds-changed, above-0, answer-0}
 
 -- ---- the contents after a reset
 

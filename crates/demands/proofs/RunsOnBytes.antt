@@ -2,23 +2,19 @@
 use Prim.Native.Nat.{ℕ, zero, suc, _+_, _-_, _≤_, _<_}
 use native.Mathlib.Omega.{arith}
 use mathlib.Core.Path.{_≡_, refl, sym, _∙_, ap}
-use mathlib.Core.Bool.{Bool, true, false, cond}
 use mathlib.Core.Option.{Option, none, some}
 use mathlib.Core.List.{List, [], _∷_, _++_, map, append-assoc}
 use lib.ListN.{length, take, drop, replicate, length-replicate, take-append-drop}
-use lib.Seq.{take-add, length-take-le}
+use lib.Seq.{take-add}
 use lib.Dec.{ltb}
-use Rattle.rules.specs.Maps.{given, find, first-that-applies}
+use Rattle.rules.specs.Maps.{find, first-that-applies}
 use Rattle.rules.specs.Catalogue.{Catalogue}
-use Rattle.rules.specs.State.{State}
-use Rattle.rules.specs.Reports.{Outcome, dropped, unless-dropped}
-use Rattle.rules.specs.Run.{Call, Input, store-length, reply-length, taken, room-drops, step, fresh, run, after}
+use Rattle.rules.specs.Reports.{dropped, unless-dropped}
+use Rattle.rules.specs.Run.{Input, store-length, taken, room-drops, step, fresh, run, after}
 use Rattle.rules.specs.Products.{Products}
-use Rattle.rules.proofs.Laws.{cases, ltb-lt, ltb-le, lt-ltb, le-ltb}
-use Rattle.rules.proofs.MapLaws.{some-eq, none-some}
-use Rattle.store.specs.Layout.{encode}
+use Rattle.rules.proofs.Laws.{cases, ltb-lt, ltb-le, le-ltb}
 use Rattle.store.specs.Decode.{Held, decode}
-use Rattle.store.specs.Entries.{Left, refuse, enter, power-on}
+use Rattle.store.specs.Entries.{refuse, enter, power-on}
 use Rattle.store.specs.Fitting.{AllFit}
 use Rattle.store.proofs.Soundness.{sound-is-an-encoding, decode-of-held, decode-front}
 use Rattle.kept.proofs.Kept.{OfBytes, AllOfBytes, the-fresh-state-is-legal}

@@ -20,7 +20,7 @@ use Rattle.rules.specs.Reports.{Outcome, answered}
 use Rattle.rules.specs.Run.{perform, first-results, answer, remember, answer-anew, handle}
 use Rattle.rules.specs.Commands.{cut, asked, unsupported, unwritable, set-by, set-results, moved-by-set, set}
 use Rattle.rules.specs.WellFormed.{WellFormed, rights-only-if-stored}
-use Rattle.rules.proofs.Laws.{cases, never, true-false, not-true, not-false, false-not, both, and-true, or-left, or-none, eqb-true, eqb-false, eqb-eq, eqb-ne, same?, all-among, find-each, find-some, has-among, among-here}
+use Rattle.rules.proofs.Laws.{cases, never, true-false, not-true, not-false, false-not, both, and-true, or-left, eqb-true, eqb-false, eqb-eq, eqb-ne, same?, all-among, find-each, find-some, has-among, among-here}
 use Rattle.rules.proofs.MapLaws.{each-append, find-kept}
 use Rattle.rules.proofs.ByteLaws.{keys-cut}
 use Rattle.rules.proofs.Lookups.{implied, known-attribute, W-supported, supported-known, attribute-says}

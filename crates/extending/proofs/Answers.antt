@@ -1,18 +1,17 @@
 -- Every command takes matched states to matched states, and its replies are the same where they must be.
 use Prim.Native.Nat.{ℕ, _<_}
-use mathlib.Core.Path.{_≡_, refl, sym, _∙_, ap}
+use mathlib.Core.Path.{_≡_, refl}
 use mathlib.Core.Bool.{Bool, true, false, not, cond}
 use mathlib.Core.Option.{some}
 use mathlib.Core.List.{List, [], _∷_}
 use lib.ListN.{length}
-use lib.Dec.{eqb}
-use Rattle.rules.specs.Maps.{_and_, _or_, given, among, first-that-applies}
+use Rattle.rules.specs.Maps.{_and_, _or_, among, first-that-applies}
 use Rattle.rules.specs.Bytes.{byte, are-bytes}
-use Rattle.rules.specs.Catalogue.{Class, Catalogue, class, known, is-created, ont-data}
+use Rattle.rules.specs.Catalogue.{Catalogue, class, known, ont-data}
 use Rattle.rules.specs.State.{State}
 use Rattle.rules.specs.Messages.{with-result, without-result, create-number, delete-number, set-number, get-number, reset-number, all-alarms-number, alarms-next-number, upload-number, upload-next-number, not-supported, unknown-class, Answer, unless-refused}
 use Rattle.rules.specs.Commands.{create, delete, set, get, reset}
-use Rattle.rules.specs.Walks.{if-ont-data, upload, upload-next, all-alarms, alarms-next}
+use Rattle.rules.specs.Walks.{upload, upload-next, all-alarms, alarms-next}
 use Rattle.rules.specs.Run.{perform, first-results, answer}
 use Rattle.rules.specs.WellFormed.{WellFormed, created-by-Create}
 use Rattle.rules.specs.Extends.{Extends}

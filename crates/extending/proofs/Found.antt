@@ -1,20 +1,20 @@
 -- What both products have: classes that come about in the same way, and instances that stand in matched tables.
 use Prim.Native.Nat.{ℕ, _<_}
-use mathlib.Core.Path.{_≡_, refl, sym, _∙_, ap}
-use mathlib.Core.Bool.{Bool, true, false, not, cond}
+use mathlib.Core.Path.{_≡_, refl, sym, _∙_}
+use mathlib.Core.Bool.{true, false}
 use mathlib.Core.Option.{Option, none, some}
-use mathlib.Core.List.{List, [], _∷_, _++_}
+use mathlib.Core.List.{[], _∷_}
 use lib.ListN.{length}
 use lib.Dec.{eqb, ltb}
 use Rattle.rules.specs.Maps.{Map, find, has, keys, among}
-use Rattle.rules.specs.Catalogue.{Creation, created, automatic, comes-with, Class, Catalogue, no-class, class, known, is-created, automatic-numbers, lead, leader, key, ont-data}
-use Rattle.rules.specs.State.{Contents, Entry, Table, class-of, entries, entry, holds, contents}
+use Rattle.rules.specs.Catalogue.{Creation, created, automatic, comes-with, Catalogue, no-class, class, known, is-created, automatic-numbers, lead, leader, key, ont-data}
+use Rattle.rules.specs.State.{Entry, Table, class-of, entries, entry, holds, contents}
 use Rattle.rules.specs.Legal.{automatic-keys}
-use Rattle.rules.specs.WellFormed.{WellFormed, leader-is-created, comes-with-a-created-one, automatic-numbers-rise}
+use Rattle.rules.specs.WellFormed.{WellFormed, comes-with-a-created-one, automatic-numbers-rise}
 use Rattle.rules.specs.Extends.{SameCreation, ClassExtends, Extends}
-use Rattle.rules.proofs.Laws.{cases, never, or-cases, true-false, both, ltb-lt, eqb-ne, among-here, all-among, eqb-eq, eqb-true, eqb-false, has-among, every-find, find-some}
+use Rattle.rules.proofs.Laws.{cases, never, or-cases, true-false, both, ltb-lt, eqb-ne, among-here, all-among, eqb-eq, has-among, every-find, find-some}
 use Rattle.rules.proofs.MapLaws.{some-eq, none-some, among-back}
-use Rattle.rules.proofs.Lookups.{unknown-class, known-class, class-says, created-known, led-known, leads-itself}
+use Rattle.rules.proofs.Lookups.{unknown-class, known-class, class-says, created-known, leads-itself}
 use Rattle.rules.proofs.Families.{family-has}
 use Rattle.rules.proofs.Standing.{standing, standing-not-created, standing-leads, automatic-among, key-class}
 use Rattle.kept.proofs.Tables.{LegalTable, LegalLive}

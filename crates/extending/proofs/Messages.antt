@@ -1,18 +1,17 @@
 -- Every message takes matched states to matched states, and is answered alike: also where it is a repeat.
-use Prim.Native.Nat.{ℕ, _%_, _<_}
+use Prim.Native.Nat.{ℕ, _%_}
 use native.Mathlib.Omega.{arith}
-use mathlib.Core.Path.{_≡_, refl, sym, _∙_, ap}
-use mathlib.Core.Bool.{Bool, true, false, not, cond}
+use mathlib.Core.Path.{_≡_, refl, _∙_, ap}
+use mathlib.Core.Bool.{true}
 use mathlib.Core.Option.{Option, none, some}
-use mathlib.Core.List.{List, [], _∷_}
+use mathlib.Core.List.{List, []}
 use lib.ListN.{length, take, drop, length-drop}
 use lib.Seq.{length-take-le, getD-take}
-use lib.Dec.{eqb}
 use Rattle.rules.specs.Maps.{given, same, first-that-applies}
 use Rattle.rules.specs.Bytes.{byte, two, are-bytes}
 use Rattle.rules.specs.Catalogue.{Catalogue}
 use Rattle.rules.specs.State.{Memory, State}
-use Rattle.rules.specs.Messages.{message-number, class-in, instance-in, contents-in, message-drops, without-result, create-number, delete-number, set-number, reply-to, Answer}
+use Rattle.rules.specs.Messages.{message-number, class-in, instance-in, contents-in, message-drops, reply-to, Answer}
 use Rattle.rules.specs.Reports.{Outcome, dropped, quiet, answered, unless-dropped}
 use Rattle.rules.specs.Run.{answer, is-repeat, remember, answer-anew, answer-again, handle, Call, message, attribute-report, alarm-report}
 use Rattle.rules.specs.WellFormed.{WellFormed}
@@ -24,9 +23,9 @@ use Rattle.rules.proofs.ByteLaws.{bytes-take, bytes-drop, two-small}
 use Rattle.kept.proofs.Refusals.{none-applies}
 use Rattle.kept.proofs.ReplyBytes.{the-result-is-byte-8}
 use Rattle.kept.proofs.LegalStates.{LegalState}
-use Rattle.extending.specs.Promise.{result-in, is-0-1-or-7, is-create-delete-or-set, answered-with-0-1-or-7, must-be-the-same, SameOutcome}
+use Rattle.extending.specs.Promise.{answered-with-0-1-or-7, must-be-the-same, SameOutcome}
 use Rattle.extending.specs.Matched.{BothMatch, MatchedMemory, MatchedState}
-use Rattle.extending.proofs.Answers.{MatchedAnswer, answer-matched}
+use Rattle.extending.proofs.Answers.{answer-matched}
 
 -- ---- outcomes
 

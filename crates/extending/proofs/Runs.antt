@@ -1,13 +1,13 @@
 -- Demand 3: for any two well-formed catalogues of which the second extends the first, over whole runs.
 use Prim.Native.Nat.{ℕ}
-use mathlib.Core.Path.{_≡_, refl, sym, _∙_, ap}
-use mathlib.Core.Bool.{Bool, true, false}
+use mathlib.Core.Path.{_≡_}
+use mathlib.Core.Bool.{true}
 use mathlib.Core.Option.{Option, none, some}
 use mathlib.Core.List.{List, [], _∷_}
 use Rattle.rules.specs.Maps.{_and_, given, first-that-applies}
 use Rattle.rules.specs.Catalogue.{Catalogue}
 use Rattle.rules.specs.State.{State}
-use Rattle.rules.specs.Reports.{Outcome, dropped, unless-dropped}
+use Rattle.rules.specs.Reports.{dropped, unless-dropped}
 use Rattle.rules.specs.Run.{Call, message, attribute-report, alarm-report, Input, taken, room-drops, step, fresh}
 use Rattle.rules.specs.WellFormed.{WellFormed}
 use Rattle.rules.specs.Extends.{Extends, names-what-it-has}
