@@ -3,7 +3,6 @@
 use Prim.Native.Nat.{ℕ}
 use mathlib.Core.Path.{_≡_}
 use mathlib.Core.Bool.{true}
-use Rattle.rules.specs.Maps.{find}
 use Rattle.rules.specs.Catalogue.{Attribute, Class, Catalogue, class, known, attribute, supported}
 use Rattle.rules.proofs.MapLaws.{Each, each-find}
 use Rattle.rules.proofs.Lookups.{known-class, known-attribute, supported-known}

@@ -9,6 +9,7 @@ use lib.Dec.{eqb}
 use Rattle.rules.specs.Maps.{Map, find, among, all}
 use Rattle.rules.specs.Bytes.{number}
 use Rattle.rules.specs.Catalogue.{fine, asks, Attribute, Class, Catalogue, class, known, attribute, supported, size-of, carried-numbers}
+use Rattle.rules.specs.Legal.{passes}
 use Rattle.rules.specs.WellFormed.{carried-bytes, computing-well-formed}
 use Rattle.rules.specs.Extends.{Agree, AttributeExtends, SameCreation, added-carried, ClassExtends, Extends, computing-extends}
 use Rattle.rules.specs.Run.{computing-rules}
@@ -25,13 +26,13 @@ use Rattle.catalogues.proofs.Each.{each-class}
 abbrev pub Steady : Class → Class → Attribute → Type 0
 Steady k l a = (v : List ℕ) (f g : ℕ → List ℕ) → Agree k l f g → (a .rule) v f ≡ (a .rule) v g
 
-pub kept : (second : Catalogue) (k l : Class) (a : Attribute) → Steady k l a → AttributeExtends second k l a a
-kept second k l a h = record {
+pub kept : (first second : Catalogue) (k l : Class) (a : Attribute) → Steady k l a → AttributeExtends first second k l a a
+kept first second k l a h = record {
   same-size = refl;
   same-source = refl;
   W-grows = λ t. t;
-  legal-contents-grow = λ v f g size bytes t there there′ more automatic p.
-      rw (← h v f g t) (passes-later there there′ more ((a .rule) v f) p);
+  legal-contents-grow = λ v f g size bytes t there there′ more automatic led p.
+      rw (← h v f g t) (passes-later there there′ (λ c i t. more c i t .2) ((a .rule) v f) p);
   same-C = refl;
   same-L = refl;
   same-AVC = refl;
@@ -43,13 +44,13 @@ unfolding find
 find-front n a [] more e = none-some e
 find-front n a (x ∷ m) more e = cases (eqb n (x .0)) (λ t. rw t (rw t at e)) (λ t. rw t (find-front n a m more (rw t at e)))
 
-pub kept-in-front : (second : Catalogue) (k l : Class) (more : Map Attribute) → l .attributes ≡ k .attributes ++ more → Each (λ n a. Steady k l a) (k .attributes)
-    → (n : ℕ) → supported k n ≡ true → (supported l n ≡ true) × AttributeExtends second k l (attribute k n) (attribute l n)
-kept-in-front second k l more e h n t =
+pub kept-in-front : (first second : Catalogue) (k l : Class) (more : Map Attribute) → l .attributes ≡ k .attributes ++ more → Each (λ n a. Steady k l a) (k .attributes)
+    → (n : ℕ) → supported k n ≡ true → (supported l n ≡ true) × AttributeExtends first second k l (attribute k n) (attribute l n)
+kept-in-front first second k l more e h n t =
     let f = find-some n (k .attributes) t in
     let a : Attribute = f .0 in
     let g : find n (l .attributes) ≡ some a = rw e (find-front n a (k .attributes) more (f .1)) in
-    (rw g, rw (found-attribute k n a (f .1), found-attribute l n a g) (kept second k l a (each-find _ (k .attributes) h n a (f .1))))
+    (rw g, rw (found-attribute k n a (f .1), found-attribute l n a g) (kept first second k l a (each-find _ (k .attributes) h n a (f .1))))
 
 -- ---- added attributes
 
@@ -66,7 +67,7 @@ abbrev pub AcceptsZero : Class → ℕ → Type 0
 AcceptsZero l n = (others : ℕ → List ℕ) → (attribute l n .rule) (replicate (size-of l n) 0) others ≡ fine
 
 -- what remains to say of a class with more attributes
-pub class-extends : (second : Catalogue) (k l : Class) (more : Map Attribute) → l .attributes ≡ k .attributes ++ more
+pub class-extends : (first second : Catalogue) (k l : Class) (more : Map Attribute) → l .attributes ≡ k .attributes ++ more
     → Each (λ n a. Steady k l a) (k .attributes)
     → SameCreation (k .creation) (l .creation)
     → all (λ n. among n (l .commands)) (k .commands) ≡ true
@@ -74,15 +75,16 @@ pub class-extends : (second : Catalogue) (k l : Class) (more : Map Attribute) �
     → carried-bytes k ≡ carried-bytes l
     → carried-numbers l ≡ carried-numbers k ++ added-carried k l
     → EachOf (AcceptsZero l) (added-carried k l)
-    → ClassExtends second k l
-class-extends second k l more e steady creation commands alarms bytes behind zeros = record {
+    → ClassExtends first second k l
+unfolding passes
+class-extends first second k l more e steady creation commands alarms bytes behind zeros = record {
   same-creation = creation;
   commands-kept = commands;
   same-alarms = λ n. rw alarms;
-  attributes-kept = kept-in-front second k l more e steady;
+  attributes-kept = kept-in-front first second k l more e steady;
   creates-carry-equally = bytes;
   added-come-after = behind;
-  added-accept-zero = each-among (AcceptsZero l) (added-carried k l) zeros;
+  added-accept-zero = λ n here f g agree there there′ more automatic led p. rw (each-among (AcceptsZero l) (added-carried k l) zeros n here g) refl;
 }
 
 -- ---- the classes
@@ -91,36 +93,36 @@ unfoldable pub extending : ℕ
 unfolding computing-rules computing-products computing-well-formed computing-extends
 extending = 0
 
-two-extends : ClassExtends Large (class Small 2) (class Large 2)
+two-extends : ClassExtends Small Large (class Small 2) (class Large 2)
 unfolding extending
-two-extends = class-extends Large (class Small 2) (class Large 2) [] refl ((λ v f g h. refl) & tt) refl refl refl refl refl tt
+two-extends = class-extends Small Large (class Small 2) (class Large 2) [] refl ((λ v f g h. refl) & tt) refl refl refl refl refl tt
 
-uni-extends : ClassExtends Large (class Small 11) (class Large 11)
+uni-extends : ClassExtends Small Large (class Small 11) (class Large 11)
 unfolding extending
-uni-extends = class-extends Large (class Small 11) (class Large 11) uni-more refl
+uni-extends = class-extends Small Large (class Small 11) (class Large 11) uni-more refl
     ((λ v f g h. refl) & (λ v f g h. refl) & (λ v f g h. refl) & (λ v f g h. refl) & (λ v f g h. refl) & (λ v f g h. refl) & tt)
     refl refl refl refl refl tt
 
-profile-extends : ClassExtends Large (class Small 45) (class Large 45)
+profile-extends : ClassExtends Small Large (class Small 45) (class Large 45)
 unfolding extending
-profile-extends = class-extends Large (class Small 45) (class Large 45) [] refl
+profile-extends = class-extends Small Large (class Small 45) (class Large 45) [] refl
     ((λ v f g h. refl) & (λ v f g h. refl) & (λ v f g h. refl) & (λ v f g h. refl) & (λ v f g h. refl) & (λ v f g h. refl) & (λ v f g h. refl) & tt)
     tt refl refl refl refl tt
 
-bridge-extends : ClassExtends Large (class Small 46) (class Large 46)
+bridge-extends : ClassExtends Small Large (class Small 46) (class Large 46)
 unfolding extending
-bridge-extends = class-extends Large (class Small 46) (class Large 46) bridge-more refl
+bridge-extends = class-extends Small Large (class Small 46) (class Large 46) bridge-more refl
     ((λ v f g h. refl) & (λ v f g h. refl) & (λ v f g h. refl) & (λ v f g h. refl) & (λ v f g h. refl) & (λ v f g h. refl) & tt)
     refl refl refl refl refl tt
 
 -- a port's TPPointer is judged by its TPType, which nothing changes
 pointer-is-steady : Steady (class Small 47) (class Large 47) (attribute (class Small 47) 4)
 unfolding extending
-pointer-is-steady v f g h = ap (λ (x : List ℕ). cond (eqb (number x) 1) (asks 11 (number v)) fine) (h 3 refl .0 refl)
+pointer-is-steady v f g h = ap (λ (x : List ℕ). cond (eqb (number x) 1) (asks 11 (number v)) fine) (h 3 .0 refl .0 refl)
 
-port-extends : ClassExtends Large (class Small 47) (class Large 47)
+port-extends : ClassExtends Small Large (class Small 47) (class Large 47)
 unfolding extending
-port-extends = class-extends Large (class Small 47) (class Large 47) port-more refl
+port-extends = class-extends Small Large (class Small 47) (class Large 47) port-more refl
     ((λ v f g h. refl) & (λ v f g h. refl) & (λ v f g h. refl) & pointer-is-steady & (λ v f g h. refl) & (λ v f g h. refl) & (λ v f g h. refl) & (λ v f g h. refl) & tt)
     tt refl refl refl refl ((λ others. refl) & tt)
 
@@ -130,6 +132,6 @@ pub large-extends-small : Extends Small Large
 unfolding extending
 large-extends-small = record {
   same-places = refl;
-  classes-kept = each-class Small (λ c k. (known Large c ≡ true) × ClassExtends Large k (class Large c))
+  classes-kept = each-class Small (λ c k. (known Large c ≡ true) × ClassExtends Small Large k (class Large c))
       ((refl, two-extends) & (refl, uni-extends) & (refl, profile-extends) & (refl, bridge-extends) & (refl, port-extends) & tt);
 }

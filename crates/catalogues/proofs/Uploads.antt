@@ -1,10 +1,10 @@
 -- How many sections an upload can have, in any catalogue: each instance is cut as its class is, and there are no more
 -- entries than automatic ones and places.
-use Prim.Native.Nat.{ℕ, suc, _+_, _*_, _≤_}
+use Prim.Native.Nat.{ℕ, _+_, _*_, _≤_}
 use native.Mathlib.Omega.{arith}
-use native.Mathlib.Nat.{suc-mul, mul-add, mul-le-mul-right}
-use mathlib.Core.Path.{_≡_, refl, ap}
-use mathlib.Core.Bool.{Bool, true}
+use native.Mathlib.Nat.{mul-add, mul-le-mul-right}
+use mathlib.Core.Path.{_≡_, ap}
+use mathlib.Core.Bool.{true}
 use mathlib.Core.List.{List, [], _∷_, map}
 use lib.ListN.{length, length-append, length-map}
 use lib.Dec.{eqb, leb}

@@ -15,7 +15,7 @@ use Rattle.catalogues.proofs.WellFormed.{small-is-well-formed, large-is-well-fo
 use Rattle.catalogues.proofs.Extends.{large-extends-small}
 use Rattle.kept.proofs.Kept.{AllOfBytes}
 use Rattle.extending.specs.Promise.{within-the-promise, SameRun, computing-promise}
-use Rattle.extending.proofs.Runs.{the-second-does-all-that-the-first-does}
+use Rattle.extending.proofs.Runs.{an-extension-has-the-same-run}
 
 -- ---- it is met
 
@@ -30,6 +30,13 @@ a-bridge-with-two-ports =
     bridge
     ∷ port 1 1
     ∷ port 2 2
+    -- again: a repeat; the bridge once more: it exists; a Get of what Small lacks; a message that isn't built; too little room for the reply, and a store that is too short
+    ∷ port 2 2
+    ∷ command 0x20 0x44 45 1 (1 ∷ 1 ∷ 0 ∷ 0x80 ∷ 0 ∷ 0x14 ∷ 0 ∷ 2 ∷ 0 ∷ 0x0F ∷ 0 ∷ [])
+    ∷ command 0x2B 0x49 11 0x0101 (0x01 ∷ 0 ∷ [])
+    ∷ command 0x2C 0x40 2 0 []
+    ∷ record { store-room = 3344; reply-room = 47; call = alarm-report 11 0x0101 0 true }
+    ∷ record { store-room = 3343; reply-room = 48; call = alarm-report 11 0x0101 0 true }
     ∷ command 0x21 0x48 11 0x0101 (0x08 ∷ 0 ∷ 1 ∷ [])
     ∷ command 0x22 0x48 47 2 (0x0C ∷ 0 ∷ 0 ∷ 7 ∷ 0 ∷ 9 ∷ [])
     ∷ command 0x23 0x4D 2 0 []
@@ -58,6 +65,12 @@ pub small-does-it : map (λ x. told (x .1)) (run Small (fresh Small) a-bridge-wi
     ≡ (0x24 ∷ 0 ∷ 0 ∷ 0 ∷ [])
     ∷ (0x24 ∷ 0 ∷ 0 ∷ 0 ∷ [])
     ∷ (0x24 ∷ 0 ∷ 0 ∷ 0 ∷ [])
+    ∷ (0x24 ∷ 0 ∷ 0 ∷ 0 ∷ [])
+    ∷ (0x24 ∷ 7 ∷ 0 ∷ 0 ∷ [])
+    ∷ (0x29 ∷ 9 ∷ 0 ∷ 0 ∷ [])
+    ∷ (0x20 ∷ 2 ∷ 0 ∷ 0 ∷ [])
+    ∷ (0 ∷ [])
+    ∷ (0 ∷ [])
     ∷ (0x28 ∷ 0 ∷ 0 ∷ 0 ∷ [])
     ∷ (0x28 ∷ 0 ∷ 0 ∷ 0 ∷ [])
     ∷ (0x2D ∷ 0 ∷ 5 ∷ 0 ∷ [])
@@ -76,11 +89,11 @@ small-does-it = refl
 
 of-bytes : AllOfBytes a-bridge-with-two-ports
 unfolding computing port a-bridge-with-two-ports
-of-bytes = refl & refl & refl & refl & refl & refl & refl & refl & tt & refl & refl & refl & refl & refl & refl & tt
+of-bytes = refl & refl & refl & refl & refl & refl & refl & tt & tt & refl & refl & refl & refl & refl & tt & refl & refl & refl & refl & refl & refl & tt
 
 -- so Large does it too
 pub large-does-it-too : SameRun Small Large (fresh Small) (fresh Large) a-bridge-with-two-ports
-large-does-it-too = the-second-does-all-that-the-first-does Small Large small-is-well-formed large-is-well-formed large-extends-small
+large-does-it-too = an-extension-has-the-same-run Small Large small-is-well-formed large-is-well-formed large-extends-small
     a-bridge-with-two-ports of-bytes the-assumption-is-met
 
 -- ---- it can't be left out

@@ -12,5 +12,6 @@ pub mod Uploads
 pub mod UploadsOnce
 pub mod Worthless
 pub mod RunsOnBytes
+pub mod Fetched
 pub mod DemandThree
 pub mod DemandThreeExample

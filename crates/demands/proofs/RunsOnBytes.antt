@@ -7,19 +7,41 @@ use mathlib.Core.List.{List, [], _∷_, _++_, map, append-assoc}
 use lib.ListN.{length, take, drop, replicate, length-replicate, take-append-drop}
 use lib.Seq.{take-add}
 use lib.Dec.{ltb}
-use Rattle.rules.specs.Maps.{find, first-that-applies}
+use Rattle.rules.specs.Maps.{given, find, first-that-applies}
 use Rattle.rules.specs.Catalogue.{Catalogue}
-use Rattle.rules.specs.Reports.{dropped, unless-dropped}
-use Rattle.rules.specs.Run.{Input, store-length, taken, room-drops, step, fresh, run, after}
+use Rattle.rules.specs.State.{State}
+use Rattle.rules.specs.Reports.{quiet, answered, Outcome, dropped, unless-dropped}
+use Rattle.rules.specs.Run.{Call, taken, reply-length, Input, store-length, room-drops, step, fresh, run, after}
 use Rattle.rules.specs.Products.{Products}
 use Rattle.rules.proofs.Laws.{cases, ltb-lt, ltb-le, le-ltb}
 use Rattle.store.specs.Decode.{Held, decode}
-use Rattle.store.specs.Entries.{refuse, enter, power-on}
+use Rattle.store.specs.Entries.{leave, refuse, enter, power-on}
 use Rattle.store.specs.Fitting.{AllFit}
 use Rattle.store.proofs.Soundness.{sound-is-an-encoding, decode-of-held, decode-front}
 use Rattle.kept.proofs.Kept.{OfBytes, AllOfBytes, the-fresh-state-is-legal}
 use Rattle.demands.specs.Lending.{lend, memory-after, outcomes, memory-after-all}
 use Rattle.demands.proofs.DemandOne.{the-outcome-is-the-rules, the-store-holds-what-the-rules-leave}
+
+-- What the reply buffer held before changes neither the outcome nor the store.
+pub what-the-buffer-held-changes-nothing : (products : Products) (c : Call) (store buffer buffer′ : List ℕ) → length buffer ≡ length buffer′
+    → (enter products c store buffer .outcome ≡ enter products c store buffer′ .outcome) × (enter products c store buffer .store ≡ enter products c store buffer′ .store)
+unfolding enter refuse leave
+what-the-buffer-held-changes-nothing products c store buffer buffer′ e = rw e (cases (ltb (length buffer′) reply-length)
+    (λ x. rw x (refl, refl))
+    (λ x. rw x (go (decode products store))))
+  where
+    left : (h : Held) (s : State) (o : Outcome) → (leave h store buffer s o .outcome ≡ leave h store buffer′ s o .outcome) × (leave h store buffer s o .store ≡ leave h store buffer′ s o .store)
+    left h s (dropped n) = (refl, refl)
+    left h s quiet = (refl, refl)
+    left h s (answered r) = (refl, refl)
+
+    go : (o : Option Held)
+        → (given o (refuse store buffer 2) (λ h. leave h store buffer (taken (h .catalogue) (h .state) c .0) (taken (h .catalogue) (h .state) c .1)) .outcome
+        ≡ given o (refuse store buffer′ 2) (λ h. leave h store buffer′ (taken (h .catalogue) (h .state) c .0) (taken (h .catalogue) (h .state) c .1)) .outcome)
+        × (given o (refuse store buffer 2) (λ h. leave h store buffer (taken (h .catalogue) (h .state) c .0) (taken (h .catalogue) (h .state) c .1)) .store
+        ≡ given o (refuse store buffer′ 2) (λ h. leave h store buffer′ (taken (h .catalogue) (h .state) c .0) (taken (h .catalogue) (h .state) c .1)) .store)
+    go none = (refl, refl)
+    go (some h) = left h (taken (h .catalogue) (h .state) c .0) (taken (h .catalogue) (h .state) c .1)
 
 length-take-most : (n : ℕ) (l : List ℕ) → length (take n l) ≤ n
 length-take-most zero l = omega arith

@@ -1,4 +1,6 @@
--- A run of calls on a store in memory: each call is lent the store's first bytes, so many as its input says, and a reply buffer.
+-- A run of calls on a store in memory: each call is lent the store's first bytes, so many as its input says (all, if there are fewer), and a
+-- reply buffer of the size that its input says. The buffer holds zeros here; what it held changes nothing
+-- (`RunsOnBytes.what-the-buffer-held-changes-nothing`).
 use Prim.Native.Nat.{ℕ}
 use mathlib.Core.List.{List, [], _∷_, _++_}
 use lib.ListN.{take, drop, replicate}

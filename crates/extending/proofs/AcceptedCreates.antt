@@ -23,7 +23,7 @@ use Rattle.kept.proofs.Refusals.{none-kept, empty-front}
 use Rattle.kept.proofs.Carried.{create-carries-legal}
 use Rattle.kept.proofs.Tables.{LegalLive}
 use Rattle.extending.specs.Matched.{MatchedContents, MatchedTable}
-use Rattle.extending.proofs.Found.{known-too, class-extends}
+use Rattle.extending.proofs.Found.{known-too, class-extends, automatic-held, companion-held, held-by-both}
 use Rattle.extending.proofs.Judged.{every-kept, contents-agree, legal-too}
 use Rattle.extending.proofs.Carried.{MatchedCarried, carried-is-C, in-added, clean-too, carried-match}
 
@@ -85,7 +85,8 @@ module _ (first second : Catalogue) (wf : WellFormed first) (wf′ : WellFormed 
   legal-if-added n w absent set-by-create e =
       let zero : replicate (size-of l n) 0 ≡ w = some-eq (sym (accepted-match .added-carried-zero n absent set-by-create) ∙ e) in
       let here : among n (added-carried k l) ≡ true = in-added first second wf wf′ ext c kn n absent set-by-create in
-      rw (← zero, class-extends first second wf wf′ ext c kn .added-accept-zero n here (fixed-contents l q)) refl
+      rw (← zero) (class-extends first second wf wf′ ext c kn .added-accept-zero n here (fixed-contents k r) (fixed-contents l q) rules-agree
+      (holds first (s .table)) (holds second (z .table)) (held-by-both first second wf wf′ ext (s .table) (z .table) m h h′) (automatic-held second wf′ (z .table) h′) (companion-held second wf′ (z .table) h′) refl)
 
   all-legal : (n : ℕ) (w : List ℕ) → find n q ≡ some w → legal-content (holds second (z .table)) l q n w ≡ true
   unfolding carried-by

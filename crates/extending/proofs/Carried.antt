@@ -58,7 +58,7 @@ module _ (first second : Catalogue) (wf : WellFormed first) (wf′ : WellFormed 
   abbrev l : Class
   l = class second c
 
-  abbrev kept : ClassExtends second (class first c) (class second c)
+  abbrev kept : ClassExtends first second (class first c) (class second c)
   kept = class-extends first second wf wf′ ext c kn
 
   carried-supported : (n : ℕ) → among n (carried-numbers k) ≡ true → supported k n ≡ true

@@ -9,8 +9,8 @@ use lib.Dec.{eqb, ltb}
 use Rattle.rules.specs.Maps.{Map, find, has, keys, among}
 use Rattle.rules.specs.Catalogue.{Creation, created, automatic, comes-with, Catalogue, no-class, class, known, is-created, automatic-numbers, lead, leader, key, ont-data}
 use Rattle.rules.specs.State.{Entry, Table, class-of, entries, entry, holds, contents}
-use Rattle.rules.specs.Legal.{automatic-keys}
-use Rattle.rules.specs.WellFormed.{WellFormed, comes-with-a-created-one, automatic-numbers-rise}
+use Rattle.rules.specs.Legal.{automatic-keys, there-or-gone}
+use Rattle.rules.specs.WellFormed.{WellFormed, leader-is-created, comes-with-a-created-one, automatic-numbers-rise}
 use Rattle.rules.specs.Extends.{SameCreation, ClassExtends, Extends}
 use Rattle.rules.proofs.Laws.{cases, never, or-cases, true-false, both, ltb-lt, eqb-ne, among-here, all-among, eqb-eq, has-among, every-find, find-some}
 use Rattle.rules.proofs.MapLaws.{some-eq, none-some, among-back}
@@ -69,6 +69,29 @@ automatic-held cat wf t h c i y =
         (λ z. never z))
         (λ e. among-back (key c i) (key ont-data 0 ∷ []) (automatic-keys cat) (automatic-among cat c i (class cat c) (known-class cat c kn) (eqb-ne c ont-data e) y))
 
+-- an instance that comes with another is there if that is
+pub companion-held : (cat : Catalogue) (wf : WellFormed cat) (t : Table) → LegalLive cat wf t → (c i : ℕ) → known cat c ≡ true
+    → holds cat t (leader cat c) i ≡ true → holds cat t c i ≡ true
+unfolding comes-with-a-created-one
+companion-held cat wf t h c i kn y =
+    let th : There cat t (leader cat c) i = holds-there cat t (leader cat c) i y in
+    let small = holds-known cat wf t h (leader cat c) i y .small in
+    let e : Entry = th .its-entry in
+    let f : find (key (leader cat c) i) (entries t) ≡ some e = rw led at (th .found) in
+    there-holds cat t c i (record {
+      its-entry = e;
+      found = f;
+      has-class = rw (has-among c e, entry-legal cat wf t h (key (leader cat c) i) e f .its-keys, key-class (leader cat c) i small) (family-has cat wf c kn);
+    })
+  where
+    go : (a : Creation) → class cat c .creation ≡ a → leader-is-created cat a ≡ true → leader cat (lead c a) ≡ lead c a
+    go created e z = rw e refl
+    go (automatic l) e z = rw e refl
+    go (comes-with d) e z = leads-itself d (class cat d .creation) z
+
+    led : leader cat (leader cat c) ≡ leader cat c
+    led = go (class cat c .creation) refl (class-says (comes-with-a-created-one cat) cat (wf .companions-of-created) c kn)
+
 -- ---- classes that both have
 
 same-lead : (c : ℕ) (a b : Creation) → SameCreation a b → lead c b ≡ lead c a
@@ -97,7 +120,7 @@ module _ (first second : Catalogue) (wf : WellFormed first) (wf′ : WellFormed 
   pub known-too : (c : ℕ) → known first c ≡ true → known second c ≡ true
   known-too c kn = ext .classes-kept c kn .0
 
-  pub class-extends : (c : ℕ) → known first c ≡ true → ClassExtends second (class first c) (class second c)
+  pub class-extends : (c : ℕ) → known first c ≡ true → ClassExtends first second (class first c) (class second c)
   class-extends c kn = ext .classes-kept c kn .1
 
   pub same-leader : (c : ℕ) → known first c ≡ true → leader second c ≡ leader first c
@@ -181,6 +204,10 @@ module _ (first second : Catalogue) (wf : WellFormed first) (wf′ : WellFormed 
     -- what the first holds, the second holds
     pub held-too : (c i : ℕ) → holds first t c i ≡ true → holds second u c i ≡ true
     held-too c i y = matched-instance t u m (live-apart u h′) c i (holds-known first wf t h c i y .is-known) y .0
+
+    -- they are ones that the first can have
+    pub held-by-both : (c i : ℕ) → holds first t c i ≡ true → (known first c ≡ true) × (there-or-gone first c i ≡ true) × (holds second u c i ≡ true)
+    held-by-both c i y = let x = holds-known first wf t h c i y in (x .is-known, x .may-be, held-too c i y)
 
     -- a created instance that the first doesn't hold, the second doesn't either
     pub not-held-either : (c i : ℕ) → is-created (class first c .creation) ≡ true → i < 65536 → holds first t c i ≡ false → holds second u c i ≡ false

@@ -20,7 +20,7 @@ use Rattle.rules.proofs.ByteLaws.{keys-cut, sized-cut, bytes-cut}
 use Rattle.kept.proofs.Tables.{LegalLive}
 use Rattle.kept.proofs.Refusals.{none-kept}
 use Rattle.extending.specs.Matched.{MatchedContents, MatchedTable}
-use Rattle.extending.proofs.Found.{class-extends, automatic-held, held-too}
+use Rattle.extending.proofs.Found.{class-extends, automatic-held, companion-held, held-by-both}
 
 -- ---- tests of every entry
 
@@ -37,8 +37,8 @@ every-and p q (x ∷ m) h g = and-true (and-true (both h .0) (both g .0)) (every
 -- ---- what rules may look at
 
 -- an attribute that rules may look at in the second, they may look at in the first
-pub fixed-before : (second : Catalogue) (k l : Class) (a b : Attribute) → AttributeExtends second k l a b → is-fixed b ≡ true → is-fixed a ≡ true
-fixed-before second k l a b x h =
+pub fixed-before : (first second : Catalogue) (k l : Class) (a b : Attribute) → AttributeExtends first second k l a b → is-fixed b ≡ true → is-fixed a ≡ true
+fixed-before first second k l a b x h =
     let g = both h in
     let w : b .W ≡ false = not-true (both (g .1) .0) in
     and-true (x .same-C ∙ g .0) (and-true
@@ -49,13 +49,17 @@ module _ (first second : Catalogue) (wf : WellFormed first) (wf′ : WellFormed 
   pub contents-agree : (c : ℕ) → known first c ≡ true → (r q : Contents) → MatchedContents (class first c) (class second c) r q
       → Agree (class first c) (class second c) (fixed-contents (class first c) r) (fixed-contents (class second c) q)
   unfolding fixed-contents content
-  contents-agree c kn r q m n fixed =
+  contents-agree c kn r q m n =
       let k : Class = class first c in
       let l : Class = class second c in (
-        λ sup.
-            let x = class-extends first second wf wf′ ext c kn .attributes-kept n sup .1 in
-            rw (fixed, fixed-before second k l (attribute k n) (attribute l n) x fixed, m .same-contents n sup) refl,
-        λ sup. rw fixed (m .added-is-zero n sup fixed),
+        λ fixed. (
+          λ sup.
+              let x = class-extends first second wf wf′ ext c kn .attributes-kept n sup .1 in
+              rw (fixed, fixed-before first second k l (attribute k n) (attribute l n) x fixed, m .same-contents n sup) refl,
+          λ sup. rw fixed (m .added-is-zero n sup fixed),
+        ),
+        λ loose. rw loose refl,
+        λ loose. rw loose refl,
       )
 
   -- sizes are the same, so what is cut off is the same
@@ -77,7 +81,7 @@ module _ (first second : Catalogue) (wf : WellFormed first) (wf′ : WellFormed 
         → passes (holds second u) ((attribute (class second c) n .rule) v g) ≡ true
     legal-too c kn f g agree n sup v sized bytes ok =
         class-extends first second wf wf′ ext c kn .attributes-kept n sup .1 .legal-contents-grow v f g sized bytes agree
-        (holds first t) (holds second u) (held-too first second wf wf′ ext t u m h h′) (automatic-held second wf′ u h′) ok
+        (holds first t) (holds second u) (held-by-both first second wf wf′ ext t u m h h′) (automatic-held second wf′ u h′) (companion-held second wf′ u h′) ok
 
     -- none of the values cut off is illegal in the second if none is in the first
     pub none-illegal : (c : ℕ) → known first c ≡ true → (l w : List ℕ) (r q : Contents)

@@ -62,8 +62,8 @@ module _ (first second : Catalogue) (wf : WellFormed first) (wf′ : WellFormed 
   -- answers every Create, Delete and Set with 0, 1 or 7, then of every call: the second drops it exactly if the first does, and with the same
   -- number; where the first's reply has a result and it is 0, 1 or 7, the second's is the same; so are notifications and alarm walks; and each
   -- attribute in the upload that the first was asked for last stands with the same content in the second's.
-  pub the-second-does-all-that-the-first-does : (l : List Input) → AllOfBytes l → within-the-promise first (fresh first) l ≡ true
+  pub an-extension-has-the-same-run : (l : List Input) → AllOfBytes l → within-the-promise first (fresh first) l ≡ true
       → SameRun first second (fresh first) (fresh second) l
-  the-second-does-all-that-the-first-does l b w = same-run (fresh first) (fresh second)
+  an-extension-has-the-same-run l b w = same-run (fresh first) (fresh second)
       (open-state first wf (fresh first) (the-fresh-state-is-legal first wf)) (open-state second wf′ (fresh second) (the-fresh-state-is-legal second wf′))
       (fresh-matched first second wf wf′ ext) l b w

@@ -84,7 +84,7 @@ pub record SameUpload (first second : Catalogue) (t u : Table) : Type 0 where
   pub stands-too : (c i n : ℕ) → stands-in (sections first t) c i n ≡ true → stands-in (sections second u) c i n ≡ true
   pub same-content : (c i n : ℕ) → stands-in (sections first t) c i n ≡ true → read second u c i n ≡ read first t c i n
 
--- the uploads that were asked for last, of the first product and of the second
+-- the uploads that were asked for last, if no reset has ended them, of the first product and of the second
 abbrev pub SameUploads : Catalogue → Catalogue → State → State → Type 0
 SameUploads first second s z = (t : Table) → s .upload ≡ some t → (u : Table) × (z .upload ≡ some u) × SameUpload first second t u
 
@@ -99,7 +99,9 @@ SameRun first second s z (p ∷ l) =
 
 -- the outcomes of a run alone, call by call
 abbrev pub SameOutcomes : List Input → List Outcome → List Outcome → Type 0
-SameOutcomes [] os ps = Unit {0}
+SameOutcomes [] [] [] = Unit {0}
+SameOutcomes [] [] (p ∷ ps) = ⊥
+SameOutcomes [] (o ∷ os) ps = ⊥
 SameOutcomes (i ∷ l) [] ps = ⊥
 SameOutcomes (i ∷ l) (o ∷ os) [] = ⊥
 SameOutcomes (i ∷ l) (o ∷ os) (p ∷ ps) = SameOutcome (i .call) o p × SameOutcomes l os ps
