@@ -1,0 +1,9 @@
+pub mod DigitLaws
+pub mod RunLaws
+pub mod NumberLaws
+pub mod WordLaws
+pub mod HexLaws
+pub mod LineLaws
+pub mod Fits
+pub mod ReadBack
+pub mod Examples

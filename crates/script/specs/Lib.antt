@@ -1,0 +1,5 @@
+pub mod Texts
+pub mod Runs
+pub mod Numbers
+pub mod HexBytes
+pub mod Lines
