@@ -6,3 +6,4 @@ pub mod Attributes
 pub mod WellFormed
 pub mod Extends
 pub mod Probe
+pub mod Grown

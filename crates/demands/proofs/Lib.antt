@@ -15,3 +15,4 @@ pub mod RunsOnBytes
 pub mod Fetched
 pub mod DemandThree
 pub mod DemandThreeExample
+pub mod GrownExample

@@ -31,7 +31,7 @@ pub record MatchedCarried (k l : Class) (r q : Contents) : Type 0 where
   pub same-carried : (n : ℕ) → supported k n ≡ true → find n q ≡ find n r
   pub added-carried-zero : (n : ℕ) → supported k n ≡ false → attribute l n .C ≡ true → find n q ≡ some (replicate (size-of l n) 0)
 
-among-those : (p : ℕ → Bool) (n : ℕ) (l : List ℕ) → among n (those p l) ≡ (p n and among n l)
+pub among-those : (p : ℕ → Bool) (n : ℕ) (l : List ℕ) → among n (those p l) ≡ (p n and among n l)
 unfolding among those _and_ _or_
 among-those p n [] = cases (p n) (λ t. rw t refl) (λ t. rw t refl)
 among-those p n (x ∷ l) =

@@ -46,17 +46,22 @@ created-held cat wf t h c i cr lt y =
     find-in-created (key c i) (t .automatic) (t .created) (e .0) (created-alone cat wf t h (key c i) (rw (key-class c i lt) cr)) (e .1) in
     in-its-entry cat wf t h c i lt (created-known cat c cr) led (e .0) f
 
+-- a class with automatic instances is known
+pub listed-known : (cat : Catalogue) (c i : ℕ) → among i (automatic-numbers (class cat c .creation)) ≡ true → known cat c ≡ true
+unfolding no-class among
+listed-known cat c i y = cases (known cat c) (λ e. e) (λ e. never (rw (unknown-class cat c e) at y))
+
 -- an automatic instance is there
 pub automatic-held : (cat : Catalogue) (wf : WellFormed cat) (t : Table) → LegalLive cat wf t → (c i : ℕ)
     → among i (automatic-numbers (class cat c .creation)) ≡ true → holds cat t c i ≡ true
-unfolding no-class automatic-numbers-rise among
+unfolding automatic-numbers-rise among
 automatic-held cat wf t h c i y =
     let led : leader cat c ≡ c = rw (key-class c i small) at (standing-leads cat wf (key c i) stands) in
     let e = find-some (key c i) (t .automatic) (rw (has-among (key c i) (t .automatic), h .automatic-keys) stands) in
     in-its-entry cat wf t h c i small kn led (e .0) (find-in-automatic (key c i) (t .automatic) (t .created) (e .0) (e .1))
   where
     kn : known cat c ≡ true
-    kn = cases (known cat c) (λ e. e) (λ e. never (rw (unknown-class cat c e) at y))
+    kn = listed-known cat c i y
 
     small : i < 65536
     small = ltb-lt i 65536 (all-among (λ j. ltb j 65536) (automatic-numbers (class cat c .creation)) (both (class-says automatic-numbers-rise cat (wf .automatic-in-order) c kn) .1) i y)

@@ -42,7 +42,7 @@ module _ {A : Type 0} (f : ℕ → A) (k : ℕ) where
 
 -- ---- instances that are there by themselves
 
-listed-too : (i : ℕ) (a b : Creation) → SameCreation a b → among i (automatic-numbers a) ≡ true → among i (automatic-numbers b) ≡ true
+pub listed-too : (i : ℕ) (a b : Creation) → SameCreation a b → among i (automatic-numbers a) ≡ true → among i (automatic-numbers b) ≡ true
 unfolding among
 listed-too i created b x h = never h
 listed-too i (automatic l) created x h = absurd x

@@ -21,3 +21,5 @@ pub mod AlarmWalks
 pub mod Answers
 pub mod Messages
 pub mod Runs
+pub mod Composes
+pub mod Itself
