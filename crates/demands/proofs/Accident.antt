@@ -12,7 +12,7 @@ use Rattle.rules.specs.Bytes.{two}
 use Rattle.rules.specs.Catalogue.{Catalogue, class, key, ont-data}
 use Rattle.rules.specs.State.{Memory, State, holds, alarms-of, with-table}
 use Rattle.rules.specs.Messages.{message-number, class-in, instance-in, contents-in, message-drops, all-alarms-number, upload-number, reset-number, Answer}
-use Rattle.rules.specs.Commands.{create-results, create, without, delete-results, delete, set-results, set, get-results, get, reset}
+use Rattle.rules.specs.Commands.{create-results, create, without, delete-results, delete, bad-in-set, set-results, set, get-results, get, reset}
 use Rattle.rules.specs.Walks.{if-ont-data, sections, section-contents, frozen, upload, upload-next, all-alarms, alarms-contents, alarms-next}
 use Rattle.rules.specs.Reports.{attribute-drops, report-attribute, alarm-drops, turned, report-alarm}
 use Rattle.rules.specs.Run.{perform, first-results, answer, is-repeat, remember, answer-anew, answer-again, handle, Call, message, attribute-report, alarm-report, Input, taken, room-drops, step, after}
@@ -111,7 +111,7 @@ module _ (cat : Catalogue) (s : State) (c i : ℕ) (v : List ℕ) where
 
   set-keeps : KeepsBoth (set cat s c i v)
   unfolding set with-table
-  set-keeps = unless-refused-is KeepsBoth s (set-results cat s c i v) _ (λ r e. (refl, refl)) (λ clear. (refl, refl))
+  set-keeps = unless-refused-is KeepsBoth s (set-results (holds cat (s .table) c i) (class cat c) (two v 0) (bad-in-set cat s c i v)) _ (λ r e. (refl, refl)) (λ clear. (refl, refl))
 
   get-keeps : KeepsBoth (get cat s c i v)
   unfolding get

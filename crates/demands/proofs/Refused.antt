@@ -12,7 +12,7 @@ use Rattle.rules.specs.Bytes.{byte, two, are-bytes}
 use Rattle.rules.specs.Catalogue.{Catalogue, class}
 use Rattle.rules.specs.State.{Memory, State, holds, counter}
 use Rattle.rules.specs.Messages.{message-number, class-in, instance-in, contents-in, message-drops, without-result, reply-to, Answer}
-use Rattle.rules.specs.Commands.{create-results, create, delete-results, delete, set-results, set, get-results, get, reset-results, reset}
+use Rattle.rules.specs.Commands.{create-results, create, delete-results, delete, bad-in-set, set-results, set, get-results, get, reset-results, reset}
 use Rattle.rules.specs.Reports.{answered}
 use Rattle.rules.specs.Run.{perform, first-results, answer, is-repeat, remember, answer-anew, answer-again, handle, message, taken}
 use Rattle.rules.specs.Products.{Products}
@@ -44,7 +44,7 @@ module _ (cat : Catalogue) (s : State) (c i : ℕ) (v : List ℕ) where
   -- a refused Set
   pub a-refused-set-changes-nothing : Refused (set cat s c i v) → set cat s c i v .0 ≡ s
   unfolding set
-  a-refused-set-changes-nothing = unless-refused-is (λ a. Refused a → a .0 ≡ s) s (set-results cat s c i v) _ (λ r e y. refl) (λ clear y. absurd (y refl))
+  a-refused-set-changes-nothing = unless-refused-is (λ a. Refused a → a .0 ≡ s) s (set-results (holds cat (s .table) c i) (class cat c) (two v 0) (bad-in-set cat s c i v)) _ (λ r e y. refl) (λ clear y. absurd (y refl))
 
   -- a refused Get (and every other Get)
   pub a-get-changes-nothing : get cat s c i v .0 ≡ s

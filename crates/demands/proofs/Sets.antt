@@ -3,14 +3,14 @@
 use Prim.Native.Nat.{ℕ, suc}
 use native.Mathlib.Omega.{arith}
 use mathlib.Core.Path.{_≡_, refl, sym, _∙_, ap}
-use mathlib.Core.Bool.{true, false, not, cond}
+use mathlib.Core.Bool.{Bool, true, false, not, cond}
 use mathlib.Core.Option.{Option, none, some}
 use mathlib.Core.Logic.{_≢_}
 use mathlib.Core.List.{List, [], _∷_}
 use lib.ListN.{length, drop}
 use lib.Dec.{eqb}
 use Rattle.rules.specs.Maps.{_and_, _or_, given, find, has, is-some, keys, keep, each, at-key, among, those, first-that-applies}
-use Rattle.rules.specs.Bytes.{byte, number, number-from}
+use Rattle.rules.specs.Bytes.{byte, two, number, number-from}
 use Rattle.rules.specs.Masks.{mask}
 use Rattle.rules.specs.Catalogue.{Class, Catalogue, class, known, attribute, supported, family, size-of, is-stored, stored-numbers, leader, key, ont-data}
 use Rattle.rules.specs.State.{Contents, Entry, Table, State, entries, entry, holds, contents, content, counter, overwrite, change, with-counter, with-table}
@@ -18,7 +18,7 @@ use Rattle.rules.specs.Legal.{automatic-keys, legal-state}
 use Rattle.rules.specs.Messages.{message-number, class-in, instance-in, contents-in, message-drops, set-number, reply-to, next-number, Answer}
 use Rattle.rules.specs.Reports.{Outcome, answered}
 use Rattle.rules.specs.Run.{perform, first-results, answer, remember, answer-anew, handle}
-use Rattle.rules.specs.Commands.{cut, asked, unsupported, unwritable, set-by, set-results, moved-by-set, set}
+use Rattle.rules.specs.Commands.{cut, asked, unsupported, unwritable, set-by, bad-in-set, set-results, moved-by-set, set}
 use Rattle.rules.specs.WellFormed.{WellFormed, rights-only-if-stored}
 use Rattle.rules.proofs.Laws.{cases, never, true-false, not-true, not-false, false-not, both, and-true, or-left, eqb-true, eqb-false, eqb-eq, eqb-ne, same?, all-among, find-each, find-some, has-among, among-here}
 use Rattle.rules.proofs.MapLaws.{each-append, find-kept}
@@ -148,10 +148,14 @@ module _ (cat : Catalogue) (s : State) (c i : ℕ) (v : List ℕ) where
   over-0 : (n : ℕ) → suc n ≢ 0
   over-0 n q = absurd (omega arith)
 
-  accepted-is : Accepted → NoneApplies (set-results cat s c i v) × (set cat s c i v ≡ (with-table (moved-by-set cat c overwritten) s, 0 ∷ []))
+  -- the lines that could have refused it
+  abbrev results : List (Bool × List ℕ)
+  results = set-results (holds cat (s .table) c i) (class cat c) (two v 0) (bad-in-set cat s c i v)
+
+  accepted-is : Accepted → NoneApplies results × (set cat s c i v ≡ (with-table (moved-by-set cat c overwritten) s, 0 ∷ []))
   unfolding set set-results overwritten
-  accepted-is = unless-refused-is (λ a. byte (a .1) 0 ≡ 0 → NoneApplies (set-results cat s c i v) × (a ≡ (with-table (moved-by-set cat c overwritten) s, 0 ∷ []))) s (set-results cat s c i v) _
-      (λ r e y. absurd (first-has (λ r. byte r 0 ≢ 0) (set-results cat s c i v)
+  accepted-is = unless-refused-is (λ a. byte (a .1) 0 ≡ 0 → NoneApplies results × (a ≡ (with-table (moved-by-set cat c overwritten) s, 0 ∷ []))) s results _
+      (λ r e y. absurd (first-has (λ r. byte r 0 ≢ 0) results
       ((λ y. over-0 4), ((λ y. over-0 2), ((λ y. over-0 8), ((λ y. over-0 2), ((λ y. over-0 2), tt))))) r e y))
       (λ clear y. (clear, refl))
 
@@ -224,7 +228,7 @@ module _ (cat : Catalogue) (wf : WellFormed cat) (s : State) (legal : legal-stat
   its-live : LegalLive cat wf (s .table)
   its-live = open-state cat wf s legal .its-table
 
-  clear : NoneApplies (set-results cat s c i v)
+  clear : NoneApplies (results cat s c i v)
   clear = accepted-is cat s c i v yes-it-is .0
 
   is-there : There cat (s .table) c i

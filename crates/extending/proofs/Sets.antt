@@ -2,13 +2,13 @@
 use Prim.Native.Nat.{ℕ, _≤_, _<_}
 use native.Mathlib.Omega.{arith}
 use mathlib.Core.Path.{_≡_, refl}
-use mathlib.Core.Bool.{true}
+use mathlib.Core.Bool.{Bool, true}
 use mathlib.Core.Option.{some}
 use mathlib.Core.List.{List, [], _∷_}
 use lib.ListN.{length, drop, length-drop}
 use lib.Dec.{eqb}
 use Rattle.rules.specs.Maps.{_and_, _or_, find, among, all, empty, those}
-use Rattle.rules.specs.Bytes.{byte, are-bytes}
+use Rattle.rules.specs.Bytes.{byte, two, are-bytes}
 use Rattle.rules.specs.Masks.{total}
 use Rattle.rules.specs.Catalogue.{Class, Catalogue, class, known, attribute, supported, size-of, ont-data}
 use Rattle.rules.specs.State.{Contents, Table, State, holds, contents, overwrite, change, with-table}
@@ -54,20 +54,24 @@ none-unwritable k (n ∷ l) h =
 
 -- ---- a Set that isn't refused
 
+-- the lines that can refuse it
+abbrev results : Catalogue → State → ℕ → ℕ → List ℕ → List (Bool × List ℕ)
+results cat s c i v = set-results (holds cat (s .table) c i) (class cat c) (two v 0) (bad-in-set cat s c i v)
+
 -- no refusal of a Set has the result 0, 1 or 7
 set-clear : (cat : Catalogue) (s : State) (c i : ℕ) (v : List ℕ) → is-0-1-or-7 (byte (set cat s c i v .1) 0) ≡ true
-    → NoneApplies (set-results cat s c i v)
+    → NoneApplies (results cat s c i v)
 unfolding set set-results among _or_
-set-clear cat s c i v = none-applied s (set-results cat s c i v) _ ((λ t. refl), ((λ t. refl), ((λ t. refl), ((λ t. refl), ((λ t. refl), tt)))))
+set-clear cat s c i v = none-applied s (results cat s c i v) _ ((λ t. refl), ((λ t. refl), ((λ t. refl), ((λ t. refl), ((λ t. refl), tt)))))
 
-set-is : (cat : Catalogue) (s : State) (c i : ℕ) (v : List ℕ) → NoneApplies (set-results cat s c i v)
+set-is : (cat : Catalogue) (s : State) (c i : ℕ) (v : List ℕ) → NoneApplies (results cat s c i v)
     → set cat s c i v ≡ (with-table (moved-by-set cat c (change cat c i (overwrite (set-by (class cat c) v)) (s .table))) s, done ∷ [])
 unfolding set
-set-is cat s c i v clear = accepted-is s (set-results cat s c i v) _ clear
+set-is cat s c i v clear = accepted-is s (results cat s c i v) _ clear
 
 -- it leaves a legal table, before the counter moves
 set-table-legal : (cat : Catalogue) (wf : WellFormed cat) (s : State) → LegalState cat wf s
-    → (c i : ℕ) (v : List ℕ) → i < 65536 → length v ≡ 32 → are-bytes v ≡ true → NoneApplies (set-results cat s c i v)
+    → (c i : ℕ) (v : List ℕ) → i < 65536 → length v ≡ 32 → are-bytes v ≡ true → NoneApplies (results cat s c i v)
     → LegalLive cat wf (change cat c i (overwrite (set-by (class cat c) v)) (s .table))
 unfolding set-results
 set-table-legal cat wf s h c i v lt long bytes clear =
@@ -92,7 +96,7 @@ module _ (first second : Catalogue) (wf : WellFormed first) (wf′ : WellFormed 
 
   module _ (s z : State) (h : LegalState first wf s) (h′ : LegalState second wf′ z) (m : MatchedState first second s z)
       (c i : ℕ) (v : List ℕ) (kn : known first c ≡ true) (lt : i < 65536) (long : length v ≡ 32) (bytes : are-bytes v ≡ true)
-      (clear : NoneApplies (set-results first s c i v)) where
+      (clear : NoneApplies (results first s c i v)) where
     named-W : all (λ n. attribute (class first c) n .W) (asked v) ≡ true
     unfolding set-results
     named-W = let g = both (not-false (clear .1 .1 .0)) in all-writable (class first c) (asked v) (g .0) (g .1)
@@ -123,7 +127,7 @@ module _ (first second : Catalogue) (wf : WellFormed first) (wf′ : WellFormed 
         (contents-agree first second wf wf′ ext c kn r q (instance-match .1)) named-supported fits (bytes-drop 2 v bytes) (not-false (clear .1 .1 .1 .1 .0)))
 
     -- the second doesn't refuse it
-    clear-too : NoneApplies (set-results second z c i v)
+    clear-too : NoneApplies (results second z c i v)
     unfolding set-results
     clear-too =
         let l : Class = class second c in

@@ -101,8 +101,9 @@ module _ (cat : Catalogue) (wf : WellFormed cat) (s : State) (h : LegalState cat
       let k : Class = class cat c in
       let new : Contents = set-by k v in
       let t : Table = change cat c i (overwrite new) (s .table) in
-      unless-refused-is (Good cat wf) s (set-results cat s c i v) (with-table (moved-by-set cat c t) s, 0 ∷ [])
-      (λ r f. stays-good r (first-has (λ r. are-bytes r ≡ true) (set-results cat s c i v) (
+      let results : List (Bool × List ℕ) = set-results (holds cat (s .table) c i) (class cat c) (two v 0) (bad-in-set cat s c i v) in
+      unless-refused-is (Good cat wf) s results (with-table (moved-by-set cat c t) s, 0 ∷ [])
+      (λ r f. stays-good r (first-has (λ r. are-bytes r ≡ true) results (
         (λ y. small-result 5 (omega arith)),
         (
           (λ y. small-result 3 (omega arith)),

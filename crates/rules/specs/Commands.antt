@@ -117,17 +117,17 @@ set-by k v = cut (size-of k) (asked v) (drop 2 v)
 unfoldable pub bad-in-set : Catalogue → State → ℕ → ℕ → List ℕ → List ℕ
 bad-in-set cat s c i v = illegal (holds cat (s .table)) (class cat c) (contents cat (s .table) c i) (set-by (class cat c) v)
 
-unfoldable pub set-results : Catalogue → State → ℕ → ℕ → List ℕ → List (Bool × List ℕ)
-set-results cat s c i v =
-    let k : Class = class cat c in
-    (not (holds cat (s .table) c i), unknown-instance ∷ [])
-    ∷ (eqb (two v 0) 0, bad-parameter ∷ [])
+-- the results of a Set with mask m of an instance of class k, which is there or not; the contents that it carries for these attributes are bad
+unfoldable pub set-results : Bool → Class → ℕ → List ℕ → List (Bool × List ℕ)
+set-results there k m bad =
+    (not there, unknown-instance ∷ [])
+    ∷ (eqb m 0, bad-parameter ∷ [])
     ∷ (
-      not (empty (unsupported k (asked v)) and empty (unwritable k (asked v))),
-      attribute-failed ∷ bytes 2 (mask (unsupported k (asked v))) ++ bytes 2 (mask (unwritable k (asked v))),
+      not (empty (unsupported k (named m)) and empty (unwritable k (named m))),
+      attribute-failed ∷ bytes 2 (mask (unsupported k (named m))) ++ bytes 2 (mask (unwritable k (named m))),
     )
-    ∷ (ltb 30 (total (size-of k) (asked v)), bad-parameter ∷ [])
-    ∷ (not (empty (bad-in-set cat s c i v)), bad-parameter ∷ 0 ∷ 0 ∷ bytes 2 (mask (bad-in-set cat s c i v)))
+    ∷ (ltb 30 (total (size-of k) (named m)), bad-parameter ∷ [])
+    ∷ (not (empty bad), bad-parameter ∷ 0 ∷ 0 ∷ bytes 2 (mask bad))
     ∷ []
 
 -- a Set of class 2 stores what it carries and doesn't move the counter further
@@ -137,7 +137,7 @@ moved-by-set cat c t = cond (eqb c ont-data) t (move-counter cat t)
 unfoldable pub set : Catalogue → State → ℕ → ℕ → List ℕ → Answer
 set cat s c i v =
     let t : Table = change cat c i (overwrite (set-by (class cat c) v)) (s .table) in
-    unless-refused s (set-results cat s c i v) (with-table (moved-by-set cat c t) s, done ∷ [])
+    unless-refused s (set-results (holds cat (s .table) c i) (class cat c) (two v 0) (bad-in-set cat s c i v)) (with-table (moved-by-set cat c t) s, done ∷ [])
 
 -- ---- Get
 

@@ -40,7 +40,7 @@ use Rattle.laying.proofs.TableWritten.{spot-room, table-laid}
 use Rattle.counting.proofs.Counted.{counter-moved}
 use Rattle.holding.specs.Held.{state-in, Sound, Leaves}
 use Rattle.holding.proofs.Held.{as-stored, live-is, live-held, live-opened, live-changed}
-use Rattle.setting.specs.Sets.{set-lines, refusing, counted-by, written, live-in, values-in, SetAt}
+use Rattle.setting.specs.Sets.{refusing, counted-by, written, live-in, values-in, SetAt}
 use Rattle.setting.proofs.Refused.{Passed, passed}
 use Rattle.setting.proofs.Wrote.{all-are-stored, put-result-is}
 
@@ -108,8 +108,8 @@ module _ (l : Bool) (b : List ℕ) (h : Sound l b) (c i : ℕ) (lt : i < 65536) 
       abbrev ref : Option (List ℕ)
       ref = refusing l c at (two v 0) (values-in v) block
 
-      lines-are : first-that-applies (set-results cat s c i v) ≡ ref
-      unfolding set-results refusing set-lines first-that-applies
+      lines-are : first-that-applies (set-results (holds cat t c i) k (two v 0) (bad-in-set cat s c i v)) ≡ ref
+      unfolding refusing
       lines-are = rw (there, ← bad-are) refl
 
       -- the table with the values written

@@ -1,17 +1,17 @@
 -- A Set of an instance that is there: what refuses it, and what it writes, over the bytes of a live table.
 use Prim.Native.Nat.{ℕ, _+_}
 use mathlib.Core.Path.{_≡_}
-use mathlib.Core.Bool.{Bool, not, cond}
+use mathlib.Core.Bool.{Bool, true, cond}
 use mathlib.Core.Option.{Option, none, some}
 use mathlib.Core.List.{List, [], _∷_, _++_}
 use lib.ListN.{take, drop}
-use lib.Dec.{eqb, ltb}
-use Rattle.rules.specs.Maps.{_and_, given, empty, first-that-applies}
+use lib.Dec.{eqb}
+use Rattle.rules.specs.Maps.{given, first-that-applies}
 use Rattle.rules.specs.Bytes.{byte, two, bytes, fill, laid}
-use Rattle.rules.specs.Masks.{named, mask, total}
-use Rattle.rules.specs.Catalogue.{Class, size-of, ont-data}
+use Rattle.rules.specs.Masks.{named}
+use Rattle.rules.specs.Catalogue.{size-of, ont-data}
 use Rattle.rules.specs.Messages.{done, bad-parameter, attribute-failed, next-number}
-use Rattle.rules.specs.Commands.{cut, unsupported, unwritable}
+use Rattle.rules.specs.Commands.{cut, set-results}
 use Rattle.store.specs.Layout.{table-length}
 use Rattle.catalogue.specs.CatOf.{cat-of, class-for}
 use Rattle.judging.specs.Judges.{is-in, bad-among}
@@ -26,22 +26,10 @@ set-contents (Result r) = some (r ∷ [])
 set-contents (Failed missing fixed) = some (attribute-failed ∷ bytes 2 missing ++ bytes 2 fixed)
 set-contents (Bad m) = some (bad-parameter ∷ 0 ∷ 0 ∷ bytes 2 m)
 
--- the results of a Set with mask m, where the contents of these attributes are bad
-unfoldable pub set-lines : Class → ℕ → List ℕ → List (Bool × List ℕ)
-set-lines k m bad =
-    (eqb m 0, bad-parameter ∷ [])
-    ∷ (
-      not (empty (unsupported k (named m)) and empty (unwritable k (named m))),
-      attribute-failed ∷ bytes 2 (mask (unsupported k (named m))) ++ bytes 2 (mask (unwritable k (named m))),
-    )
-    ∷ (ltb 30 (total (size-of k) (named m)), bad-parameter ∷ [])
-    ∷ (not (empty bad), bad-parameter ∷ 0 ∷ 0 ∷ bytes 2 (mask bad))
-    ∷ []
-
 -- what refuses a Set with mask m and values v of the instance of class c whose contents begin at a place of b
 unfoldable pub refusing : Bool → ℕ → ℕ → ℕ → List ℕ → List ℕ → Option (List ℕ)
 refusing large c at m v b =
-    first-that-applies (set-lines (class-for large c) m (bad-among (is-in (cat-of large) b) (class-for large c) b at (named m) v))
+    first-that-applies (set-results true (class-for large c) m (bad-among (is-in (cat-of large) b) (class-for large c) b at (named m) v))
 
 -- the counter moves on, but not by a Set of class 2
 unfoldable pub counted-by : ℕ → List ℕ → List ℕ
