@@ -29,7 +29,7 @@ use Rattle.instances.proofs.HeldAt.{there-is-held}
 use Rattle.judging.specs.Judges.{is-in, fixed-at, legal-at}
 use Rattle.reporting.specs.Spotted.{content-drops, drop-at}
 
--- ---- drops 12 and 13, by the attribute's line
+-- ---- the drops where the instance is there, by the attribute's line
 
 module _ {k : Class} {n : ℕ} {a : Attribute} (d : DescribedIn k n a) (there : ℕ → ℕ → Bool) (b : List ℕ) (at : ℕ) (v : List ℕ) where
   abbrev code : ℕ

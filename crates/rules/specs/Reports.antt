@@ -25,13 +25,18 @@ unless-dropped s drops taken = given (first-that-applies drops) taken (λ n. (s,
 
 -- ---- attributes
 
+-- the drops of a report of content v of attribute a, whose instance is there or not; the content is legal or not
+abbrev pub drops-of-attribute : Bool → Attribute → Bool → List ℕ → List (Bool × ℕ)
+drops-of-attribute there a legal v =
+    (not there, 11)
+    ∷ (not (a .L), 12)
+    ∷ (not (eqb (length v) (a .size) and legal), 13)
+    ∷ []
+
 unfoldable pub attribute-drops : Catalogue → State → ℕ → ℕ → ℕ → List ℕ → List (Bool × ℕ)
 attribute-drops cat s c i n v =
-    let a : Attribute = attribute (class cat c) n in
-    (not (holds cat (s .table) c i), 11)
-    ∷ (not (a .L), 12)
-    ∷ (not (eqb (length v) (a .size) and legal-content (holds cat (s .table)) (class cat c) (contents cat (s .table) c i) n v), 13)
-    ∷ []
+    drops-of-attribute (holds cat (s .table) c i) (attribute (class cat c) n)
+    (legal-content (holds cat (s .table)) (class cat c) (contents cat (s .table) c i) n v) v
 
 -- a message is sent only if something changed, and only where AVC is named
 unfoldable pub report-attribute : Catalogue → State → ℕ → ℕ → ℕ → List ℕ → State × Outcome
