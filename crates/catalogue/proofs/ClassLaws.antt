@@ -4,17 +4,17 @@ use native.Mathlib.Omega.{arith}
 use mathlib.Core.Path.{_≡_, refl, sym, _∙_, ap}
 use mathlib.Core.Bool.{Bool, true, false, not}
 use mathlib.Core.List.{List, [], _∷_}
-use lib.ListN.{getD, List·getD-eq-default}
+use lib.ListN.{drop, getD, List·getD-eq-default}
 use lib.Dec.{eqb}
 use Rattle.rules.specs.Maps.{_or_, keys, among, all, same, empty}
-use Rattle.rules.specs.Catalogue.{Class, Catalogue, class, known, no-class, leader, family}
+use Rattle.rules.specs.Catalogue.{Class, Catalogue, class, known, no-class, is-created, leader, family}
 use Rattle.rules.specs.WellFormed.{implies, computing-well-formed}
 use Rattle.rules.specs.Products.{ont-data-class, profile-class, Small, Large}
 use Rattle.rules.proofs.Laws.{cases, never, true-false, not-true, or-cases, or-none, eqb-true, eqb-false, eqb-eq, eqb-ne, same-eq, all-among, has-among}
-use Rattle.rules.proofs.Lookups.{implied, unknown-class, created-known, leads-itself as itself}
+use Rattle.rules.proofs.Lookups.{implied, unknown-class}
 use Rattle.catalogue.specs.CatOf.{cat-of, class-for}
 use Rattle.store.specs.Positions.{before, inside}
-use Rattle.catalogue.specs.Families.{companions, Companion}
+use Rattle.catalogue.specs.Families.{Companion}
 use Rattle.catalogue.specs.Computing.{computing-tables}
 use Rattle.catalogue.proofs.Matches.{Avoids, avoided}
 
@@ -148,22 +148,19 @@ starts-at-0 l c a = sym (eqb-eq (inside (cat-of l) c) 0
     (elsewhere (λ cat d. eqb (inside cat d) 0) l c (46 ∷ []) a (unfold computing-tables in refl) (unfold computing-tables in refl)
     (λ e. rw (← leads-itself l c a, no-family l c (unknown-avoids l c e)) refl)))
 
-module _ (l : Bool) (c r : ℕ) where
-  pub companion : keys (family (cat-of l) c) ≡ c ∷ companions r → Companion l c r
-  companion e = record { of-leader = λ h g. e; of-created = λ h. e }
-
-  pub led : (known (cat-of l) c ≡ true → leader (cat-of l) c ≡ c → keys (family (cat-of l) c) ≡ c ∷ companions r) → Companion l c r
-  led f = record { of-leader = f; of-created = λ h. f (created-known (cat-of l) c h) (itself c (class-for l c .creation) h) }
-
-unknown-implies : {a : Bool} (b : Bool) → a ≡ false → implies a b ≡ true
-unfolding implies _or_
-unknown-implies b e = rw e
-
 -- a class that nothing comes with
 pub alone : (l : Bool) (c : ℕ) → Avoids c (45 ∷ []) → Companion l c 0
-alone l c a = led l c 0 (λ h g.
-    let q : implies (known (cat-of l) c) (implies (eqb (leader (cat-of l) c) c) (same (keys (family (cat-of l) c)) (c ∷ []))) ≡ true =
-    elsewhere (λ cat d. implies (known cat d) (implies (eqb (leader cat d) d) (same (keys (family cat d)) (d ∷ [])))) l c (45 ∷ []) a
+unfolding keys
+alone l c a = empty-none (drop 1 (keys (family (cat-of l) c)))
+    (elsewhere (λ cat d. empty (drop 1 (keys (family cat d)))) l c (45 ∷ []) a (unfold computing-tables in refl) (unfold computing-tables in refl)
+    (λ e. rw (no-family l c (unknown-avoids l c e)) refl))
+
+-- a created class is the first of its family
+pub leads-its-family : (l : Bool) (c : ℕ) → is-created (class-for l c .creation) ≡ true → keys (family (cat-of l) c) ≡ c ∷ drop 1 (keys (family (cat-of l) c))
+unfolding no-class implies _or_
+leads-its-family l c cr =
+    let q : implies (is-created (class-for l c .creation)) (same (keys (family (cat-of l) c)) (c ∷ drop 1 (keys (family (cat-of l) c)))) ≡ true =
+    elsewhere (λ cat d. implies (is-created (class cat d .creation)) (same (keys (family cat d)) (d ∷ drop 1 (keys (family cat d))))) l c [] tt
     (unfold computing-tables computing-well-formed in refl) (unfold computing-tables computing-well-formed in refl)
-    (λ e. unknown-implies (implies (eqb (leader (cat-of l) c) c) (same (keys (family (cat-of l) c)) (c ∷ []))) e) in
-    same-eq (keys (family (cat-of l) c)) (c ∷ []) (implied (implied q h) (eqb-true (leader (cat-of l) c) c g)))
+    (λ e. rw (unknown-class (cat-of l) c e) refl) in
+    same-eq (keys (family (cat-of l) c)) (c ∷ drop 1 (keys (family (cat-of l) c))) (implied q cr)

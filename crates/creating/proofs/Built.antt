@@ -73,23 +73,23 @@ port-family false = refl
 
 -- the contents of every new entry
 abbrev Makes : Bool → ℕ → Type 0
-Makes l c = (d : ℕ) (f : ℕ → ℕ) → keys (family (cat-of l) c) ≡ c ∷ companions d → made l c d (listed 32 f) ≡ expected l c (listed 32 f)
+Makes l c = (d : ℕ) (f : ℕ → ℕ) → Companion l c d → made l c d (listed 32 f) ≡ expected l c (listed 32 f)
 
 profiles : (l : Bool) → Makes l 45
 profiles l d f q =
-    let e : d ≡ 46 = only-companion d 45 (ap (drop 1) (sym (profile-family l) ∙ q)) in
+    let e : d ≡ 46 = only-companion d 45 (sym (q ∙ ap (drop 1) (profile-family l))) in
     ap (λ (d : ℕ). made l 45 d (listed 32 f)) e ∙ profile-made l f
 
 ports : (l : Bool) → Makes l 47
 ports l d f q =
-    let e : d ≡ 0 = no-companion d (ap (drop 1) (sym (port-family l) ∙ q)) in
+    let e : d ≡ 0 = no-companion d (sym (q ∙ ap (drop 1) (port-family l))) in
     ap (λ (d : ℕ). made l 47 d (listed 32 f)) e ∙ port-made l f
 
 module _ (l : Bool) (c : ℕ) (cr : is-created (class-for l c .creation) ≡ true) (v : List ℕ) (long : length v ≡ 32) where
   pub is-made : (d : ℕ) → Companion l c d → made l c d v ≡ expected l c v
   is-made d q =
       let e : v ≡ listed 32 (byte v) = is-listed 32 v long in
-      ap (made l c d) e ∙ of-created (Makes l) l c cr (profiles l) (ports l) d (byte v) (q .of-created cr) ∙ ap (expected l c) (sym e)
+      ap (made l c d) e ∙ of-created (Makes l) l c cr (profiles l) (ports l) d (byte v) q ∙ ap (expected l c) (sym e)
 
 -- ---- in a new place, what rules may look at is what the Create carried
 

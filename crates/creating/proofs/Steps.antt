@@ -23,6 +23,7 @@ use Rattle.store.specs.Layout.{slots-length, place-width, place-length, entry-b
 use Rattle.octets.proofs.Laid.{laid-all}
 use Rattle.catalogue.specs.CatOf.{cat-of, class-for}
 use Rattle.catalogue.specs.Families.{Companion, inside-entry}
+use Rattle.catalogue.proofs.ClassLaws.{leads-its-family}
 use Rattle.catalogue.proofs.ProductLaws.{well-formed-of}
 use Rattle.table.specs.Spots.{rank, place-at, inserted}
 use Rattle.table.specs.Places.{place-keys, keys-in}
@@ -87,11 +88,11 @@ module _ (l : Bool) (c : ℕ) (cr : is-created (class-for l c .creation) ≡ tru
   unfolding among
   companion-led zero q n = absurd (n refl)
   companion-led (suc d) q n =
-      let inn : among (suc d) (keys (family (cat-of l) c)) ≡ true = ap (among (suc d)) (q .of-created cr) ∙ or-right _ (or-left _ (eqb-true (suc d) (suc d) refl)) in
+      let inn : among (suc d) (keys (family (cat-of l) c)) ≡ true = ap (among (suc d)) (leads-its-family l c cr ∙ ap (λ (m : List ℕ). c ∷ m) (sym q)) ∙ or-right _ (or-left _ (eqb-true (suc d) (suc d) refl)) in
       let led : leader (cat-of l) (suc d) ≡ c = in-family (cat-of l) (well-formed-of l) c (suc d) inn .1 in
       ap (λ (x : ℕ). is-created (class-for l x .creation)) led ∙ cr
 
-  module _ (v : List ℕ) (long : length v ≡ 32) {own c₀ c₁ c₂ : List ℕ} {d : ℕ} (o : own ≡ with-carried l c v) (lo : length own ≡ place-width) (z : c₀ ≡ replicate place-width 0)
+  module _ (v : List ℕ) (long : length v ≡ 32) {own c₀ c₁ c₂ : List ℕ} (d : ℕ) (o : own ≡ with-carried l c v) (lo : length own ≡ place-width) (z : c₀ ≡ replicate place-width 0)
       (first : c₁ ≡ laid 0 own c₀) (second : c₂ ≡ with-others l c own c₁) (q : Companion l c d) where
     copied-whole : c₁ ≡ own
     copied-whole = first ∙ laid-all own c₀ (lo ∙ sym (ap length z))

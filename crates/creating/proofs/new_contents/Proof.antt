@@ -54,7 +54,7 @@ lay-others-requires-2 : tie.Need-lay-others-requires-2
 lay-others-requires-2 c κs =
     let f = c .before .before .before .before .before .before .before .before .before .before .before .before .before .before .before .before .before .before .before .before in
     let m : length (f .args .c .now) ≡ place-width = ap length (f .pre .0) in
-    (search needs, carried-long (f .args .large) (f .args .class) (c .before .before .before .before .before .before .before .before .before .before .before .before .before .before .before .before .carried-mask .ensures) (f .args .v .now) (f .pre .2) (c .before .before .before .before .before .before .before .before .before .before .before .before .before .before .before .lay-values .ensures), companion-led (f .args .large) (f .args .class) (f .pre .1) _ (c .before .before .before .companion-of .ensures) (c .before .before .if1 .taken))
+    (search needs, carried-long (f .args .large) (f .args .class) (c .before .before .before .before .before .before .before .before .before .before .before .before .before .before .before .before .carried-mask .ensures) (f .args .v .now) (f .pre .2) (c .before .before .before .before .before .before .before .before .before .before .before .before .before .before .before .lay-values .ensures), companion-led (f .args .large) (f .args .class) (f .pre .1) (c .before .before .before .companion-of .result) (c .before .before .before .companion-of .ensures) (c .before .before .if1 .taken))
 
 same-length : tie.Need-same-length
 same-length c = search needs
@@ -62,7 +62,7 @@ same-length c = search needs
 returns : tie.Need-returns
 returns c =
     let f = c .before .before .before .before .before .before .before .before .before .before .before .before .before .before .before .before .before .before .before .before .before .before .before in
-    made-with (f .args .large) (f .args .class) (f .pre .1) (f .args .v .now) (f .pre .2)
+    made-with (f .args .large) (f .args .class) (f .pre .1) (f .args .v .now) (f .pre .2) (c .before .before .before .before .before .before .companion-of .result)
     (carried-laid (f .args .large) (f .args .class) (c .before .before .before .before .before .before .before .before .before .before .before .before .before .before .before .before .before .before .before .carried-mask .ensures) (f .args .v .now) (f .pre .2) (c .before .before .before .before .before .before .before .before .before .before .before .before .before .before .before .before .before .before .lay-values .ensures))
     (carried-long (f .args .large) (f .args .class) (c .before .before .before .before .before .before .before .before .before .before .before .before .before .before .before .before .before .before .before .carried-mask .ensures) (f .args .v .now) (f .pre .2) (c .before .before .before .before .before .before .before .before .before .before .before .before .before .before .before .before .before .before .lay-values .ensures))
     (f .pre .0) (c .before .before .before .before .before .before .before .before .before .before .before .before .before .before .copy-in .ensures) (c .before .before .before .before .before .before .before .before .before .lay-others .ensures) (c .before .before .before .before .before .before .companion-of .ensures) (c .before .before .before .before .before .if1 .taken) (c .before .before .lay-others2 .ensures)
@@ -73,7 +73,7 @@ same-length-2 c = search needs
 returns-2 : tie.Need-returns-2
 returns-2 c =
     let f = c .before .before .before .before .before .before .before .before .before .before .before .before .before .before .before .before .before .before in
-    made-alone (f .args .large) (f .args .class) (f .pre .1) (f .args .v .now) (f .pre .2)
+    made-alone (f .args .large) (f .args .class) (f .pre .1) (f .args .v .now) (f .pre .2) (c .before .companion-of .result)
     (carried-laid (f .args .large) (f .args .class) (c .before .before .before .before .before .before .before .before .before .before .before .before .before .before .carried-mask .ensures) (f .args .v .now) (f .pre .2) (c .before .before .before .before .before .before .before .before .before .before .before .before .before .lay-values .ensures))
     (carried-long (f .args .large) (f .args .class) (c .before .before .before .before .before .before .before .before .before .before .before .before .before .before .carried-mask .ensures) (f .args .v .now) (f .pre .2) (c .before .before .before .before .before .before .before .before .before .before .before .before .before .lay-values .ensures))
     (f .pre .0) (c .before .before .before .before .before .before .before .before .before .copy-in .ensures) (c .before .before .before .before .lay-others .ensures) (c .before .companion-of .ensures) (c .if1 .left)
