@@ -6,13 +6,13 @@ use mathlib.Core.Bool.{Bool, true, false}
 use mathlib.Core.Logic.{_≢_}
 use mathlib.Core.List.{List, [], _∷_}
 use lib.ListN.{length, getD}
-use lib.Dec.{ltb}
+use lib.Dec.{ltb, leb}
 use Rattle.rules.specs.Bytes.{number, number-from, two}
 use Rattle.rules.specs.Catalogue.{Class, Catalogue, attribute, size-of}
 use Rattle.rules.specs.Catalogue as rules
 use Rattle.rules.specs.Products.{any, from_to_, one-of}
 use Rattle.rules.specs.Legal.{passes}
-use Rattle.rules.proofs.Laws.{cases, true-and, ltb-lt, ltb-le, lt-ltb}
+use Rattle.rules.proofs.Laws.{cases, true-and, ltb-lt, ltb-le, lt-ltb, leb-le, le-leb}
 use Rattle.catalogue.specs.declared.Rule.{Rule}
 use Rattle.catalogue.specs.declared.Rule.the-variants.{Any, Range, Listed, Pointer}
 use Rattle.catalogue.specs.declared.Attribute.{Attribute}
@@ -23,27 +23,36 @@ use Rattle.catalogue.specs.Describes.{DescribedIn}
 use Rattle.catalogue.specs.Judged.{verdict-of, Judged}
 use Rattle.catalogue.proofs.Views.{size-is, wide-is-fine}
 use Rattle.instances.specs.Live.{there-in}
-use Rattle.judging.specs.Judges.{is-in, looked-at}
+use Rattle.judging.specs.Judges.{is-in, value-of, looked-at}
 
 -- ---- the number in a content
 
-pub one-byte : (v : List ℕ) → length v ≡ 1 → getD v 0 0 ≡ number v
-unfolding number-from
+pub one-byte : (v : List ℕ) → length v ≡ 1 → getD v 0 0 ≡ value-of v
+unfolding number-from value-of
 one-byte [] h = absurd (omega arith)
 one-byte (x ∷ []) h = omega arith
 one-byte (x ∷ y ∷ v) h = absurd (omega arith)
 
-pub two-bytes : (v : List ℕ) → length v ≡ 2 → two v 0 ≡ number v
-unfolding number-from
+pub two-bytes : (v : List ℕ) → length v ≡ 2 → two v 0 ≡ value-of v
+unfolding number-from value-of
 two-bytes [] h = absurd (omega arith)
 two-bytes (x ∷ []) h = absurd (omega arith)
 two-bytes (x ∷ y ∷ []) h = omega arith
 two-bytes (x ∷ y ∷ z ∷ v) h = absurd (omega arith)
 
-pub no-bytes : (v : List ℕ) → length v ≢ 1 → length v ≢ 2 → length v ≤ 2 → 0 ≡ number v
+no-number : (v : List ℕ) → length v ≢ 1 → length v ≢ 2 → length v ≤ 2 → 0 ≡ number v
 unfolding number-from
-no-bytes [] h g i = refl
-no-bytes (x ∷ v) h g i = absurd (omega arith)
+no-number [] h g i = refl
+no-number (x ∷ v) h g i = absurd (omega arith)
+
+pub no-bytes : (v : List ℕ) → length v ≢ 1 → length v ≢ 2 → 0 ≡ value-of v
+unfolding value-of
+no-bytes v h g = cases (leb (length v) 2) (λ e. rw e (no-number v h g (leb-le (length v) 2 e))) (λ e. rw e refl)
+
+-- one that isn't wider
+narrow : (v : List ℕ) → length v ≤ 2 → value-of v ≡ number v
+unfolding value-of
+narrow v h = rw (le-leb (length v) 2 h) refl
 
 -- ---- the verdict
 
@@ -64,7 +73,7 @@ by-what-is-looked-at (Pointer c) (suc n) condition v others e says = says others
 
 module _ (k : Class) (n : ℕ) (v : List ℕ) (others : ℕ → List ℕ) {a : Attribute} {value condition : ℕ} {r : Verdict}
     (d : DescribedIn k n a) (j : Judged a value condition r)
-    (sized : length v ≡ size-of k n) (is : length v ≤ 2 → value ≡ number v) (looks : condition ≡ looked-at (a .rule) (a .«only_if») others) where
+    (sized : length v ≡ size-of k n) (is : value ≡ value-of v) (looks : condition ≡ looked-at (a .rule) (a .«only_if») others) where
   pub verdict-is : verdict-of r ≡ (attribute k n .rule) v others
   unfolding meaning
   verdict-is = cases (ltb 2 (a .size))
@@ -72,7 +81,7 @@ module _ (k : Class) (n : ℕ) (v : List ℕ) (others : ℕ → List ℕ) {a : A
       (λ h.
       let z : a .size ≡ size-of k n = size-is d in
       let w : a .size ≤ 2 = ltb-le 2 (a .size) h in
-      let e : number v ≡ value = sym (is (omega arith)) in
+      let e : number v ≡ value = sym (is ∙ narrow v (omega arith)) in
       by-what-is-looked-at (a .rule) (a .«only_if») condition v others looks (λ f g. j .says v f e g)
       ∙ ap (λ (x : rules.Attribute). (x .rule) v others) (d .is))
 

@@ -4,8 +4,8 @@ use mathlib.Core.Path.{_≡_}
 use mathlib.Core.Bool.{Bool, true, not, cond}
 use mathlib.Core.Logic.{_≢_}
 use mathlib.Core.List.{List, []}
-use lib.ListN.{take, drop}
-use lib.Dec.{ltb}
+use lib.ListN.{length, take, drop}
+use lib.Dec.{ltb, leb}
 use Rattle.rules.specs.Maps.{_and_, keys, keep}
 use Rattle.rules.specs.Bytes.{number}
 use Rattle.rules.specs.Catalogue.{Class, Catalogue, attribute, supported, size-of, is-stored, is-fixed}
@@ -20,6 +20,10 @@ use Rattle.instances.specs.Live.{there-in}
 -- is instance i of class c there, in the bytes of a live table? An instance's number has two bytes.
 unfoldable pub is-in : Catalogue → List ℕ → ℕ → ℕ → Bool
 is-in cat live c i = ltb i 65536 and there-in cat live c i
+
+-- the number in a content of at most two bytes; wider ones aren't judged
+unfoldable pub value-of : List ℕ → ℕ
+value-of v = cond (leb (length v) 2) (number v) 0
 
 -- the bytes of attribute n
 abbrev pub bytes-at : Class → List ℕ → ℕ → ℕ → List ℕ

@@ -7,17 +7,16 @@ use catalogue::judge;
 ghost use mathlib.Core.Path.{_≡_};
 ghost use Prim.Native.Nat.{_+_, _≤_};
 ghost use lib.ListN.{length};
-ghost use Rattle.rules.specs.Bytes.{number};
 ghost use Rattle.rules.specs.Masks.{named, mask, total};
 ghost use Rattle.rules.specs.Catalogue.{size-of};
 ghost use Rattle.store.specs.Layout.{contents-width};
 ghost use Rattle.catalogue.specs.CatOf.{cat-of, class-for};
 ghost use Rattle.table.specs.Places.{InShape};
-ghost use Rattle.judging.specs.Judges.{is-in, fixed-at, legal-at, bad-among, looked-at, Looks};
+ghost use Rattle.judging.specs.Judges.{is-in, value-of, fixed-at, legal-at, bad-among, looked-at, Looks};
 
-// The number in a content of one or two bytes; wider ones aren't judged.
+// The number in a content of one or two bytes; 0 for wider ones, which aren't judged.
 fn value_in(v: &[u8]) -> u16
-    ensures { λ r. ⌜ (length (now (v .entry)) ≤ 2 → r ≡ number (now (v .entry))) ⌝ }
+    ensures { λ r. ⌜ r ≡ value-of (now (v .entry)) ⌝ }
 {
     if v.len() == 1 {
         return octets::wide(v[0]);

@@ -15,13 +15,13 @@ wide-requires : tie.Need-wide-requires
 wide-requires c κs = search needs
 
 returns : tie.Need-returns
-returns c = λ h. c .wide .ensures .0 ∙ one-byte (c .before .before .before .before .args .v .now) (search needs)
+returns c = c .wide .ensures .0 ∙ one-byte (c .before .before .before .before .args .v .now) (search needs)
 
 number-at-requires : tie.Need-number-at-requires
 number-at-requires c κs = search needs
 
 returns-2 : tie.Need-returns-2
-returns-2 c = λ h. c .number-at .ensures ∙ two-bytes (c .before .before .before .before .args .v .now) (search needs)
+returns-2 c = c .number-at .ensures ∙ two-bytes (c .before .before .before .before .args .v .now) (search needs)
 
 returns-3 : tie.Need-returns-3
 returns-3 c = no-bytes (c .before .before .before .args .v .now) (c .before .if1 .left) (c .if2 .left)
