@@ -1,5 +1,5 @@
 -- The counter in a live table's bytes.
-use Prim.Native.Nat.{ℕ, _+_, _*_, _<_}
+use Prim.Native.Nat.{ℕ, _+_, _<_}
 use native.Mathlib.Omega.{arith}
 use mathlib.Core.Path.{_≡_, refl, sym, _∙_, ap}
 use mathlib.Core.Bool.{Bool, true}
@@ -9,17 +9,17 @@ use lib.ListN.{length, take, set}
 use lib.Seq.{set-split}
 use Rattle.rules.specs.Bytes.{byte, number, number-from, fill, laid}
 use Rattle.rules.specs.Maps.{_and_, Map, find, keys, among}
-use Rattle.rules.specs.Catalogue.{Catalogue, class, known, size-of, stored-numbers, leader, key, ont-data}
+use Rattle.rules.specs.Catalogue.{Catalogue, class, size-of, stored-numbers, leader, key, ont-data}
 use Rattle.rules.specs.State.{Contents, Entry, Table, entries, entry, contents, content, counter, with-counter}
 use Rattle.rules.specs.Messages.{next-number}
 use Rattle.rules.specs.Commands.{move-counter}
 use Rattle.rules.specs.WellFormed.{WellFormed}
 use Rattle.rules.specs.Walks.{frozen}
 use Rattle.rules.proofs.Laws.{find-some, has-among}
-use Rattle.rules.proofs.Standing.{standing, class-2-known}
+use Rattle.rules.proofs.Standing.{class-2-known}
 use Rattle.store.specs.Layout.{entry-bytes, code-table}
 use Rattle.store.proofs.ContentsBack.{legal-keys}
-use Rattle.kept.proofs.Tables.{LegalEntry, LegalLive, open-table, frozen-legal}
+use Rattle.kept.proofs.Tables.{LegalEntry, LegalLive, frozen-legal}
 use Rattle.kept.proofs.Holds.{find-in-automatic, entry-legal}
 use Rattle.table.specs.Spots.{live-bytes, inside, offset, spot-among, spot}
 use Rattle.table.proofs.TableLaid.{Shape, shape-of}
@@ -29,7 +29,7 @@ use Rattle.catalogue.specs.CatOf.{cat-of}
 use Rattle.catalogue.specs.Computing.{computing-tables}
 use Rattle.catalogue.proofs.ClassLaws.{in-either, class-2}
 use Rattle.catalogue.proofs.ProductLaws.{well-formed-of, fits-of}
-use Rattle.instances.specs.Live.{Holding}
+use Rattle.counting.specs.Counts.{moved-on}
 
 -- a byte stored in front
 pub put-in-front : (b : List ℕ) (n m : ℕ) → 0 < length b → m ≡ n → set b 0 m ≡ laid 0 (n ∷ []) b
@@ -73,14 +73,14 @@ module _ (l : Bool) (t : Table) (h : LegalLive (cat-of l) (well-formed-of l) t) 
   its-spot = rw (leads, wf .class-2-has-instance-0-alone) refl
 
   -- the byte in front is the counter
-  pub counter-written : (n : ℕ) → live-bytes (with-counter cat n t) ≡ laid 0 (n ∷ []) (live-bytes t)
+  counter-written : (n : ℕ) → live-bytes (with-counter cat n t) ≡ laid 0 (n ∷ []) (live-bytes t)
   unfolding with-counter
   counter-written n =
       let e = write-laid cat wf (fits-of l) t h ont-data 0 1 (n ∷ []) (omega arith) is-stored-there (sym one-byte-long) 0 (class-2-known cat wf) its-spot in
       e ∙ ap (λ (o : ℕ). laid (0 + o) (n ∷ []) (live-bytes t)) at-its-start
 
   -- and shows it
-  pub counter-shown : counter cat t ≡ byte (live-bytes t) 0
+  counter-shown : counter cat t ≡ byte (live-bytes t) 0
   unfolding counter contents content entry find live-bytes keys
   counter-shown =
       let k : ℕ = key ont-data 0 in
@@ -95,14 +95,6 @@ module _ (l : Bool) (t : Table) (h : LegalLive (cat-of l) (well-formed-of l) t) 
       let shown : take 1 (entry-bytes e) ≡ f .0 = rw (at-its-start, one-byte-long, in-front) at (ie .shown 1 (f .0) (f .1)) in
       rw (leads, found, ie .found, f .1, ← shown) (one-number (entry-bytes e) ∙ sym (first-of-filled (entry-bytes e) (code-table (frozen t))))
 
--- in the bytes of a live table of a product
-module _ (l : Bool) (b : List ℕ) (t : Table) (q : Holding (cat-of l) b t) where
-  opened : LegalLive (cat-of l) (well-formed-of l) t
-  opened = open-table (cat-of l) (well-formed-of l) (standing (cat-of l) (well-formed-of l)) t (q .legal)
-
-  pub counter-set : (n : ℕ) → live-bytes (with-counter (cat-of l) n t) ≡ laid 0 (n ∷ []) b
-  counter-set n = counter-written l t opened n ∙ ap (laid 0 (n ∷ [])) (sym (q .is))
-
-  pub counter-moved : live-bytes (move-counter (cat-of l) t) ≡ laid 0 (next-number (byte b 0) ∷ []) b
-  counter-moved = counter-set (next-number (counter (cat-of l) t))
-      ∙ ap (λ (n : ℕ). laid 0 (next-number n ∷ []) b) (counter-shown l t opened ∙ ap (λ (x : List ℕ). byte x 0) (sym (q .is)))
+  -- moved on, in the rules and in the bytes
+  pub counter-moved : moved-on (live-bytes t) ≡ live-bytes (move-counter cat t)
+  counter-moved = sym (counter-written (next-number (counter cat t)) ∙ ap (λ (n : ℕ). laid 0 (next-number n ∷ []) (live-bytes t)) counter-shown)

@@ -34,9 +34,10 @@ use Rattle.table.proofs.TableMoved.{put-moved}
 use Rattle.judging.proofs.Held as judged
 use Rattle.holding.specs.Held.{state-in, Sound, Leaves}
 use Rattle.holding.proofs.Held.{as-stored, live-is, live-held, live-opened}
-use Rattle.deleting.specs.Without.{counted}
+use Rattle.counting.specs.Counts.{moved-on}
+use Rattle.counting.proofs.Counted.{counter-moved}
 use Rattle.deleting.proofs.Made.{made-held}
-use Rattle.deleting.proofs.Deleted.{counted-is, given-back, its-keys, its-count}
+use Rattle.deleting.proofs.Deleted.{given-back, its-keys, its-count}
 use Rattle.creating.specs.New.{unkept-bad, bad-carried, with-place}
 use Rattle.creating.proofs.Built.{fixed-shown}
 use Rattle.creating.proofs.Bad.{none-masked, some-masked}
@@ -160,7 +161,7 @@ module _ (l : Bool) (b : List ℕ) (h : Sound l b) (c i : ℕ) (lt : i < 65536) 
             rw (its-keys l b h, its-count l b h)
             (ap (λ (x : List ℕ). laid 1 (suc (length (t .created)) ∷ []) (inserted (place-at (rank (key c i) (keys (t .created)))) r x)) (live-is l b h)
             ∙ sym (put-moved cat wf (fits-of l) t (live-opened l b h) (key c i) new absent fewer (longer (key c i) new (t .created) absent))) in
-            ap counted moved ∙ counted-is l made made-legal
+            ap moved-on moved ∙ counter-moved l made made-legal
 
         answer : create cat s c i v ≡ (with-table (move-counter cat made) s, done ∷ [])
         unfolding create create-results unless-refused first-that-applies

@@ -13,7 +13,7 @@ use Rattle.rules.specs.Bytes.{byte, bytes, fill, laid}
 use Rattle.rules.specs.Masks.{named, mask, total}
 use Rattle.rules.specs.Catalogue.{Class, size-of, stored-numbers, carried-numbers, is-created, leader, family, key}
 use Rattle.rules.specs.State.{Entry, class-of, number-of}
-use Rattle.rules.specs.Messages.{next-number, bad-parameter}
+use Rattle.rules.specs.Messages.{bad-parameter}
 use Rattle.rules.specs.Commands.{cut, carried-by}
 use Rattle.rules.proofs.Laws.{or-left, or-right, eqb-true}
 use Rattle.rules.proofs.Lookups.{leads-itself}
@@ -30,7 +30,7 @@ use Rattle.table.specs.Places.{place-keys, keys-in}
 use Rattle.table.proofs.TableMoved.{rank-fits}
 use Rattle.laying.specs.Lays.{laid-values, firsts, leading-class, all-stored, Laying, LayingFirsts}
 use Rattle.laying.proofs.Overwritten.{cut-is-sized, length-laid-values}
-use Rattle.deleting.specs.Without.{counted}
+use Rattle.counting.specs.Counts.{moved-on}
 use Rattle.creating.specs.New.{other-numbers, with-others, with-carried, with-companion, with-place}
 use Rattle.creating.proofs.Created.{carried-named, carried-stored, contents-fit, carried-fit, others-stored, entry-fits, copied-there}
 use Rattle.creating.proofs.Built.{expected, is-made}
@@ -156,9 +156,9 @@ rank-small k b e =
     omega arith
 
 pub put-in-is : (k : ℕ) (r b : List ℕ) {j : ℕ} {x y : List ℕ} → j ≡ rank k (keys-in b) → x ≡ laid 1 (suc (byte b 1) ∷ []) (inserted (place-at j) r b)
-    → y ≡ laid 0 (next-number (byte x 0) ∷ []) x → y ≡ with-place k r b
-unfolding with-place counted
-put-in-is k r b e f g = g ∙ ap (λ (z : List ℕ). laid 0 (next-number (byte z 0) ∷ []) z) (f ∙ ap (λ (j : ℕ). laid 1 (suc (byte b 1) ∷ []) (inserted (place-at j) r b)) e)
+    → y ≡ moved-on x → y ≡ with-place k r b
+unfolding with-place
+put-in-is k r b e f g = g ∙ ap moved-on (f ∙ ap (λ (j : ℕ). laid 1 (suc (byte b 1) ∷ []) (inserted (place-at j) r b)) e)
 
 -- ---- the reply with the bad bits
 

@@ -15,7 +15,7 @@ use Rattle.table.specs.Spots.{rank, place-at, inserted}
 use Rattle.table.specs.Places.{keys-in}
 use Rattle.laying.specs.Lays.{laid-values, firsts, leading-class}
 use Rattle.judging.specs.Judges.{is-in, bad-among}
-use Rattle.deleting.specs.Without.{counted}
+use Rattle.counting.specs.Counts.{moved-on}
 
 -- ---- a new entry's contents
 
@@ -51,4 +51,4 @@ bad-carried cat live k r v = bad-among (is-in cat live) k r 4 (carried-numbers k
 
 -- a place put in where its key belongs, and the counter moved on
 unfoldable pub with-place : ℕ → List ℕ → List ℕ → List ℕ
-with-place key r b = counted (laid 1 (suc (byte b 1) ∷ []) (inserted (place-at (rank key (keys-in b))) r b))
+with-place key r b = moved-on (laid 1 (suc (byte b 1) ∷ []) (inserted (place-at (rank key (keys-in b))) r b))

@@ -11,13 +11,12 @@ use Rattle.rules.specs.Maps.{is-some, keys, remove, first-that-applies}
 use Rattle.rules.specs.Bytes.{byte, laid}
 use Rattle.rules.specs.Catalogue.{Catalogue, class, is-created, key}
 use Rattle.rules.specs.State.{Table, State, holds, with-table}
-use Rattle.rules.specs.Messages.{done, unknown-instance, next-number, unless-refused}
+use Rattle.rules.specs.Messages.{done, unknown-instance, unless-refused}
 use Rattle.rules.specs.Commands.{with-created, move-counter, without, delete-results, delete}
 use Rattle.rules.specs.WellFormed.{WellFormed}
 use Rattle.rules.proofs.MapLaws.{rising-up, length-keys}
-use Rattle.rules.proofs.Standing.{standing}
 use Rattle.store.specs.Layout.{place-length, table-length}
-use Rattle.kept.proofs.Tables.{LegalLive, close-table, delete-legal}
+use Rattle.kept.proofs.Tables.{LegalLive, delete-legal}
 use Rattle.kept.proofs.Counter.{move-counter-legal}
 use Rattle.kept.proofs.LegalStates.{open-state}
 use Rattle.octets.proofs.Laid.{laid-part}
@@ -31,21 +30,17 @@ use Rattle.table.proofs.PlaceKeys.{live-in-shape, live-count, live-keys}
 use Rattle.table.proofs.TableMoved.{remove-moved}
 use Rattle.holding.specs.Held.{state-in, Sound, stored, Leaves}
 use Rattle.holding.proofs.Held.{as-stored, live-is, live-held, live-opened, live-changed}
+use Rattle.counting.specs.Counts.{moved-on}
 use Rattle.counting.proofs.Counted.{counter-moved}
 use Rattle.staying.proofs.AlarmsStay.{alarms-left}
-use Rattle.deleting.specs.Without.{counted, without-place}
+use Rattle.deleting.specs.Without.{without-place}
 use Rattle.deleting.proofs.Made.{made-held, shorter}
 
--- the counter moved on in the bytes of a legal table
-pub counted-is : (l : Bool) (t : Table) → LegalLive (cat-of l) (well-formed-of l) t → counted (live-bytes t) ≡ live-bytes (move-counter (cat-of l) t)
-unfolding counted
-counted-is l t h = sym (counter-moved l (live-bytes t) t (record { legal = close-table (cat-of l) (well-formed-of l) (standing (cat-of l) (well-formed-of l)) t h; is = refl }))
-
 -- a place out, then the counter
-pub taken-out-is : (j : ℕ) (b x y : List ℕ) → x ≡ laid 1 ((byte b 1 - 1) ∷ []) (removed (place-at j) place-length b) → y ≡ laid 0 (next-number (byte x 0) ∷ []) x
+pub taken-out-is : (j : ℕ) (b x y : List ℕ) → x ≡ laid 1 ((byte b 1 - 1) ∷ []) (removed (place-at j) place-length b) → y ≡ moved-on x
     → y ≡ without-place j b
-unfolding without-place counted
-taken-out-is j b x y e f = f ∙ ap (λ (z : List ℕ). laid 0 (next-number (byte z 0) ∷ []) z) e
+unfolding without-place
+taken-out-is j b x y e f = f ∙ ap moved-on e
 
 -- a live table lent and given back with other bytes
 pub given-back : (l : Bool) (b : List ℕ) (h : Sound l b) (t : Table) → LegalLive (cat-of l) (well-formed-of l) t
@@ -123,7 +118,7 @@ module _ (l : Bool) (b : List ℕ) (h : Sound l b) (c i : ℕ) (lt : i < 65536) 
         let moved : laid 1 ((byte block 1 - 1) ∷ []) (removed (place-at j) place-length block) ≡ live-bytes left =
         rw fewer (ap (λ (x : List ℕ). laid 1 (length (remove (key c i) (s .table .created)) ∷ []) (removed (place-at j) place-length x)) (live-is l b h)
         ∙ sym (remove-moved cat wf (fits-of l) (s .table) (live-opened l b h) (key c i) j its-place one-less)) in
-        ap counted moved ∙ counted-is l left left-legal
+        ap moved-on moved ∙ counter-moved l left left-legal
 
     deletion : delete cat s c i ≡ (without cat c i s, done ∷ [])
     unfolding delete delete-results unless-refused first-that-applies

@@ -2,14 +2,10 @@
 use Prim.Native.Nat.{ℕ, _-_}
 use mathlib.Core.List.{List, [], _∷_}
 use Rattle.rules.specs.Bytes.{byte, laid}
-use Rattle.rules.specs.Messages.{next-number}
 use Rattle.store.specs.Layout.{place-length}
 use Rattle.table.specs.Spots.{place-at, removed}
-
--- the counter moved on
-unfoldable pub counted : List ℕ → List ℕ
-counted b = laid 0 (next-number (byte b 0) ∷ []) b
+use Rattle.counting.specs.Counts.{moved-on}
 
 -- place j taken out, and the counter moved on
 unfoldable pub without-place : ℕ → List ℕ → List ℕ
-without-place j b = counted (laid 1 ((byte b 1 - 1) ∷ []) (removed (place-at j) place-length b))
+without-place j b = moved-on (laid 1 ((byte b 1 - 1) ∷ []) (removed (place-at j) place-length b))

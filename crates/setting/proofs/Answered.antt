@@ -9,19 +9,18 @@ use lib.ListN.{length, drop, replicate, set, length-drop}
 use lib.Seq.{take-all}
 use lib.Dec.{eqb}
 use Rattle.rules.specs.Maps.{given, is-some, keys, rising, first-that-applies}
-use Rattle.rules.specs.Bytes.{byte, two, fill, laid, are-bytes}
+use Rattle.rules.specs.Bytes.{two, fill, laid, are-bytes}
 use Rattle.rules.specs.Masks.{named, total}
 use Rattle.rules.specs.Catalogue.{Class, Catalogue, known, size-of, ont-data}
 use Rattle.rules.specs.State.{Table, State, holds, overwrite, change, with-table}
-use Rattle.rules.specs.Messages.{done, unknown-instance, next-number, Answer, unless-refused}
+use Rattle.rules.specs.Messages.{done, unknown-instance, Answer, unless-refused}
 use Rattle.rules.specs.Commands.{cut, set-by, bad-in-set, set-results, moved-by-set}
 use Rattle.rules.specs.Commands as commands
 use Rattle.rules.specs.WellFormed.{WellFormed}
 use Rattle.rules.proofs.Laws.{cases}
 use Rattle.rules.proofs.ByteLaws.{keys-cut}
-use Rattle.rules.proofs.Standing.{standing}
 use Rattle.store.specs.Layout.{table-length, contents-width}
-use Rattle.kept.proofs.Tables.{LegalLive, close-table}
+use Rattle.kept.proofs.Tables.{LegalLive}
 use Rattle.kept.proofs.Holds.{holds-known}
 use Rattle.kept.proofs.Carried.{set-carries-legal}
 use Rattle.kept.proofs.Written.{set-legal}
@@ -37,6 +36,7 @@ use Rattle.judging.proofs.Held.{bad-in-table}
 use Rattle.laying.specs.Lays.{laid-values}
 use Rattle.laying.proofs.Overwritten.{Sized, cut-is-sized}
 use Rattle.laying.proofs.TableWritten.{spot-room, table-laid}
+use Rattle.counting.specs.Counts.{moved-on}
 use Rattle.counting.proofs.Counted.{counter-moved}
 use Rattle.holding.specs.Held.{state-in, Sound, Leaves}
 use Rattle.holding.proofs.Held.{as-stored, live-is, live-held, live-opened, live-changed}
@@ -150,8 +150,7 @@ module _ (l : Bool) (b : List ℕ) (h : Sound l b) (c i : ℕ) (lt : i < 65536) 
         unfolding written counted-by moved-by-set
         written-are = cases (eqb c ont-data)
             (λ e. rw e laid-are)
-            (λ e. rw e (ap (λ (x : List ℕ). laid 0 (next-number (byte x 0) ∷ []) x) laid-are
-            ∙ sym (counter-moved l (live-bytes changed) changed (record { legal = close-table cat wf (standing cat wf) changed changed-legal; is = refl }))))
+            (λ e. rw e (ap moved-on laid-are ∙ counter-moved l changed changed-legal))
 
       passed-all : ref ≡ none → Passed k (two v 0) bad
       unfolding refusing

@@ -27,6 +27,7 @@ use Rattle.catalogue.proofs.Offsets.{is-among-stored}
 use Rattle.judging.specs.Judges.{is-in, bad-among}
 use Rattle.laying.specs.Lays.{laid-values, all-stored, Laying}
 use Rattle.laying.proofs.Overwritten.{cut-is-sized, length-laid-values}
+use Rattle.counting.specs.Counts.{moved-on}
 use Rattle.setting.specs.declared.SetRefusal.{SetRefusal}
 use Rattle.setting.specs.declared.SetRefusal.the-variants.{Accepted, Result, Failed, Bad}
 use Rattle.setting.specs.Sets.{set-contents, refusing, counted-by, written, live-in, values-in, SetAt}
@@ -63,9 +64,9 @@ module _ (l : Bool) (c at m : ℕ) (v b : List ℕ) where
   abbrev values : List ℕ
   values = laid-values (class-for l c) at (cut (size-of (class-for l c)) (named m) v) b
 
-  pub wrote-counted : {x y : List ℕ} → x ≡ values → c ≢ ont-data → y ≡ laid 0 (next-number (byte x 0) ∷ []) x → y ≡ written l c at m v b
+  pub wrote-counted : {x y : List ℕ} → x ≡ values → c ≢ ont-data → y ≡ moved-on x → y ≡ written l c at m v b
   unfolding written counted-by
-  wrote-counted e n f = f ∙ ap (λ (z : List ℕ). laid 0 (next-number (byte z 0) ∷ []) z) e ∙ sym (rw (eqb-false c ont-data n) refl)
+  wrote-counted e n f = f ∙ ap moved-on e ∙ sym (rw (eqb-false c ont-data n) refl)
 
   pub wrote-alone : {x : List ℕ} → x ≡ values → c ≡ ont-data → x ≡ written l c at m v b
   unfolding written counted-by

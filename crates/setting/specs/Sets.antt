@@ -7,15 +7,16 @@ use mathlib.Core.List.{List, [], _∷_, _++_}
 use lib.ListN.{take, drop}
 use lib.Dec.{eqb}
 use Rattle.rules.specs.Maps.{given, first-that-applies}
-use Rattle.rules.specs.Bytes.{byte, two, bytes, fill, laid}
+use Rattle.rules.specs.Bytes.{two, bytes, fill, laid}
 use Rattle.rules.specs.Masks.{named}
 use Rattle.rules.specs.Catalogue.{size-of, ont-data}
-use Rattle.rules.specs.Messages.{done, bad-parameter, attribute-failed, next-number}
+use Rattle.rules.specs.Messages.{done, bad-parameter, attribute-failed}
 use Rattle.rules.specs.Commands.{cut, set-results}
 use Rattle.store.specs.Layout.{table-length}
 use Rattle.catalogue.specs.CatOf.{cat-of, class-for}
 use Rattle.judging.specs.Judges.{is-in, bad-among}
 use Rattle.laying.specs.Lays.{laid-values}
+use Rattle.counting.specs.Counts.{moved-on}
 use Rattle.setting.specs.declared.SetRefusal.{SetRefusal}
 use Rattle.setting.specs.declared.SetRefusal.the-variants.{Accepted, Result, Failed, Bad}
 
@@ -33,7 +34,7 @@ refusing large c at m v b =
 
 -- the counter moves on, but not by a Set of class 2
 unfoldable pub counted-by : ℕ → List ℕ → List ℕ
-counted-by c b = cond (eqb c ont-data) b (laid 0 (next-number (byte b 0) ∷ []) b)
+counted-by c b = cond (eqb c ont-data) b (moved-on b)
 
 -- what it makes of b
 unfoldable pub written : Bool → ℕ → ℕ → ℕ → List ℕ → List ℕ → List ℕ
