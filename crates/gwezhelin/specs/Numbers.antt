@@ -5,22 +5,12 @@ use mathlib.Core.Option.{Option, none, some}
 use mathlib.Core.List.{List}
 use Rattle.rules.specs.Reports as rules
 use Rattle.store.specs.Entries.{Left}
-use Rattle.outcome.specs.declared.Outcome.{Outcome}
-use Rattle.outcome.specs.declared.Outcome.the-variants.{Answered, Quiet, Dropped}
-use Rattle.outcome.specs.declared.Started.{Started}
-use Rattle.outcome.specs.declared.Started.the-variants as started
 
 -- 0: the buffer's first 48 bytes are to be sent; 255: nothing is; else the drop's number
 abbrev pub number-for : rules.Outcome → ℕ
 number-for (rules.dropped n) = n
 number-for rules.quiet = 255
 number-for (rules.answered r) = 0
-
--- the same of the code's answer
-abbrev pub code-of : Outcome → ℕ
-code-of Answered = 0
-code-of Quiet = 255
-code-of (Dropped n) = n
 
 -- what C gets, and what the call left, are those of x
 pub record Returns (r : ℕ) (store buffer : List ℕ) (x : Left) : Type 0 where
@@ -32,10 +22,6 @@ pub record Returns (r : ℕ) (store buffer : List ℕ) (x : Left) : Type 0 where
 abbrev pub start-number-for : Option ℕ → ℕ
 start-number-for none = 0
 start-number-for (some n) = n
-
-abbrev pub start-code : Started → ℕ
-start-code started.Fresh = 0
-start-code (started.Dropped n) = n
 
 pub record StartReturns (r : ℕ) (store : List ℕ) (x : Option ℕ × List ℕ) : Type 0 where
   pub its-number : r ≡ start-number-for (x .0)

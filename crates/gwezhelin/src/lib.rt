@@ -3,15 +3,17 @@ use outcome::Outcome;
 use outcome::Started;
 ghost use mathlib.Core.Path.{_≡_};
 ghost use mathlib.Core.Bool.{not};
+ghost use mathlib.Core.List.{[]};
 ghost use lib.Dec.{eqb};
 ghost use Rattle.rules.specs.Run.{message, attribute-report, alarm-report, store-length};
 ghost use Rattle.rules.specs.Products.{built-products};
 ghost use Rattle.store.specs.Entries.{enter, power-on};
-ghost use Rattle.gwezhelin.specs.Numbers.{code-of, start-code, Returns, StartReturns};
+ghost use Rattle.outcome.specs.Outcomes.{outcome-of, started-of};
+ghost use Rattle.gwezhelin.specs.Numbers.{number-for, start-number-for, Returns, StartReturns};
 
 // An outcome's number: 0 for a message to send, 255 for nothing to send, else the drop.
 fn number(o: Outcome) -> u8
-    ensures { λ r. ⌜ r ≡ code-of o ⌝ }
+    ensures { λ r. ⌜ r ≡ number-for (outcome-of o []) ⌝ }
 {
     match o {
         Outcome::Answered => 0,
@@ -22,7 +24,7 @@ fn number(o: Outcome) -> u8
 
 // A power-on's number: 0, or the drop.
 fn start_number(o: Started) -> u8
-    ensures { λ r. ⌜ r ≡ start-code o ⌝ }
+    ensures { λ r. ⌜ r ≡ start-number-for (started-of o) ⌝ }
 {
     match o {
         Started::Fresh => 0,
