@@ -1,5 +1,6 @@
 // Get all alarms and its Next: the alarms are frozen when they are asked for, then shown instance by instance.
 use catalogue::slots;
+use soundness::LIVE;
 ghost use mathlib.Core.Path.{_≡_};
 ghost use mathlib.Core.List.{[], _∷_, _++_};
 ghost use Prim.Native.Nat.{_≤_};
@@ -75,7 +76,7 @@ pub fn all_alarms(store: &mut [u8], large: bool, class: u16, number: u16, out: &
     let e = ALARMS + slots::slots(large);
     let n = how_many_on(&store[ALARMS..e]);
     store[NUMBER] = 0;
-    freeze(&mut store[ALARMS..100]);
+    freeze(&mut store[ALARMS..LIVE]);
     octets::put_number(out, 0, n);
 }
 

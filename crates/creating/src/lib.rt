@@ -1,6 +1,8 @@
 // Create: a new instance of a created class, with those that come with it.
 use catalogue::classes;
 use catalogue::masks;
+use soundness::FROZEN;
+use soundness::LIVE;
 use table::Found;
 ghost use mathlib.Core.Path.{_≡_};
 ghost use mathlib.Core.Bool.{true, false};
@@ -16,11 +18,6 @@ ghost use Rattle.catalogue.specs.CatOf.{cat-of, class-for};
 ghost use Rattle.table.specs.Places.{InShape};
 ghost use Rattle.holding.specs.Held.{state-in, Sound, Leaves};
 ghost use Rattle.creating.specs.New.{with-others, unkept-bad, bad-carried, with-place};
-
-// The live table in a store.
-const LIVE: usize = 100;
-
-const LIVE_END: usize = 1722;
 
 // Class and number stand before the contents of a place.
 const KEY: usize = 4;
@@ -122,21 +119,17 @@ fn create_absent(store: &mut [u8], large: bool, class: u16, number: u16, v: &[u8
 {
     let mut r = [0u8; 39];
     new_place(&mut r, large, class, number, v);
-    let bad = bad_in_create(&store[LIVE..LIVE_END], large, class, v, &r);
+    let bad = bad_in_create(&store[LIVE..FROZEN], large, class, v, &r);
     if bad != 0 {
         out[0] = BAD_PARAMETER;
         octets::put_number(out, 1, bad);
         return;
     }
-    if table::in_use(&store[LIVE..LIVE_END]) >= PLACES {
+    if table::in_use(&store[LIVE..FROZEN]) >= PLACES {
         out[0] = NO_PLACE;
         return;
     }
-    put_in(
-        &mut store[LIVE..LIVE_END],
-        octets::key_of(class, number),
-        &r,
-    );
+    put_in(&mut store[LIVE..FROZEN], octets::key_of(class, number), &r);
 }
 
 // Answers a Create of an instance of a created class.
@@ -144,7 +137,7 @@ pub fn create(store: &mut [u8], large: bool, class: u16, number: u16, v: &[u8], 
     requires { ⌜ Sound large (now store) × (is-created (class-for large class .creation) ≡ true) × (length (now v) ≡ 32) × (now out ≡ replicate 32 0) ⌝ }
     ensures { λ _. ⌜ Leaves large (create (cat-of large) (state-in large (now (store .entry))) class number (now (v .entry))) (now (store .entry)) (now (store .exit)) (now (out .exit)) ⌝ }
 {
-    let found = table::place_of(&store[LIVE..LIVE_END], octets::key_of(class, number));
+    let found = table::place_of(&store[LIVE..FROZEN], octets::key_of(class, number));
     match found {
         Found::At(_) => out[0] = INSTANCE_EXISTS,
         Found::Nothing => create_absent(store, large, class, number, v, out),

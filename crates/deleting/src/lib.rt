@@ -1,4 +1,6 @@
 // Delete: a created instance goes, with those that came with it.
+use soundness::FROZEN;
+use soundness::LIVE;
 use table::Found;
 ghost use mathlib.Core.Path.{_≡_};
 ghost use mathlib.Core.Bool.{true};
@@ -11,11 +13,6 @@ ghost use Rattle.catalogue.specs.CatOf.{cat-of, class-for};
 ghost use Rattle.table.specs.Places.{InShape};
 ghost use Rattle.holding.specs.Held.{state-in, Sound, Leaves};
 ghost use Rattle.deleting.specs.Without.{without-place};
-
-// The live table in a store.
-const LIVE: usize = 100;
-
-const LIVE_END: usize = 1722;
 
 const UNKNOWN_INSTANCE: u8 = 5;
 
@@ -33,9 +30,9 @@ pub fn delete(store: &mut [u8], large: bool, class: u16, number: u16, out: &mut 
     requires { ⌜ Sound large (now store) × (is-created (class-for large class .creation) ≡ true) × (now out ≡ replicate 32 0) ⌝ }
     ensures { λ _. ⌜ Leaves large (delete (cat-of large) (state-in large (now (store .entry))) class number) (now (store .entry)) (now (store .exit)) (now (out .exit)) ⌝ }
 {
-    let found = table::place_of(&store[LIVE..LIVE_END], octets::key_of(class, number));
+    let found = table::place_of(&store[LIVE..FROZEN], octets::key_of(class, number));
     match found {
-        Found::At(j) => take_out(&mut store[LIVE..LIVE_END], j),
+        Found::At(j) => take_out(&mut store[LIVE..FROZEN], j),
         Found::Nothing => out[0] = UNKNOWN_INSTANCE,
     }
 }

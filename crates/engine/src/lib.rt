@@ -1,6 +1,7 @@
 // The entries of the engine: for every input one outcome, one store and one reply buffer, those that the rules name.
 use outcome::Outcome;
 use outcome::Started;
+use soundness::END;
 ghost use mathlib.Core.Path.{_≡_};
 ghost use Prim.Native.Nat.{_≤_};
 ghost use lib.ListN.{length};
@@ -119,7 +120,7 @@ pub fn report_alarm(
 pub fn power_on(store: &mut [u8], product: u8) -> Started
     ensures { λ r. ⌜ (started-of r, now (store .exit)) ≡ power-on built-products product (now (store .entry)) ⌝ }
 {
-    if store.len() < 3344 {
+    if store.len() < END {
         return Started::Dropped(2);
     }
     match product {

@@ -1,5 +1,7 @@
 // The Get command: reads attributes of an instance, and changes nothing.
 use refusals::GetRefusal;
+use soundness::FROZEN;
+use soundness::LIVE;
 use table::Found;
 use table::Which;
 ghost use mathlib.Core.Path.{_≡_};
@@ -50,7 +52,7 @@ pub fn get(store: &[u8], large: bool, class: u16, number: u16, v: &[u8], out: &m
     ensures { λ _. ⌜ now (out .exit) ≡ fill 32 (get (cat-of large) (state-in large (now (store .entry))) class number (now (v .entry)) .1) ⌝ }
 {
     let asked = octets::number_at(v, 0);
-    let b = &store[100..1722];
+    let b = &store[LIVE..FROZEN];
     let refusal = refusals::get_refusal(b, large, class, number, asked);
     match refusal {
         GetRefusal::Result(r) => {

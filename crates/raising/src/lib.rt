@@ -3,6 +3,8 @@ use catalogue::Slot;
 use catalogue::classes;
 use catalogue::slots;
 use outcome::Outcome;
+use soundness::FROZEN;
+use soundness::LIVE;
 ghost use mathlib.Core.Path.{_≡_};
 ghost use mathlib.Core.List.{_++_};
 ghost use Prim.Native.Nat.{_<_, _≤_};
@@ -80,7 +82,7 @@ pub fn report_alarm(
     requires { ⌜ Sound large (now store) × (48 ≤ length (now reply)) ⌝ }
     ensures { λ r. ⌜ left-by r (now (store .exit)) (now (reply .exit)) ≡ leaves large (state-in large (now (store .entry))) (now (store .entry)) (now (reply .entry)) (report-alarm (cat-of large) (state-in large (now (store .entry))) class number alarm on) ⌝ }
 {
-    if !instances::is_there(&store[100..1722], large, class, number) {
+    if !instances::is_there(&store[LIVE..FROZEN], large, class, number) {
         return Outcome::Dropped(NOT_THERE);
     }
     let slot = slots::slot_of(large, class, number);

@@ -2,6 +2,8 @@
 use catalogue::Rights;
 use catalogue::attributes;
 use outcome::Outcome;
+use soundness::FROZEN;
+use soundness::LIVE;
 use table::Found;
 ghost use mathlib.Core.Path.{_≡_};
 ghost use mathlib.Core.Bool.{not};
@@ -29,11 +31,6 @@ const NO_INSTANCE: u8 = 11;
 const NOT_REPORTED: u8 = 12;
 
 const BAD_CONTENT: u8 = 13;
-
-// The live table in a store.
-const LIVE: usize = 100;
-
-const LIVE_END: usize = 1722;
 
 // The type of the message that an attribute has a new value.
 const AVC: u8 = 0x11;
@@ -154,13 +151,13 @@ pub fn report_attribute(
         (report-attribute (cat-of large) (state-in large (now (store .entry))) class number attribute (now (content .entry))) ⌝ }
 {
     let n = attribute as u16;
-    let code = attribute_drop(&store[LIVE..LIVE_END], large, class, number, n, content);
+    let code = attribute_drop(&store[LIVE..FROZEN], large, class, number, n, content);
     if code != 0 {
         return Outcome::Dropped(code);
     }
     let a = attributes::attribute_of(large, class, n);
     let is_new = write_content(
-        &mut store[LIVE..LIVE_END],
+        &mut store[LIVE..FROZEN],
         large,
         class,
         number,

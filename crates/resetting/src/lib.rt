@@ -1,6 +1,9 @@
 // MIB reset, and the fresh store of a power-on: first contents.
 use catalogue::masks;
 use catalogue::slots;
+use soundness::END;
+use soundness::FROZEN;
+use soundness::LIVE;
 ghost use mathlib.Core.Path.{_≡_};
 ghost use Prim.Native.Nat.{_+_, _≤_};
 ghost use lib.ListN.{length, replicate};
@@ -15,14 +18,8 @@ ghost use Rattle.resetting.specs.Resets.{begun, slots-begun, block-reset
 
 const UNKNOWN_INSTANCE: u8 = 5;
 
-// The store's length, and where the alarm walk, the live block and the upload begin in it.
-const STORE: usize = 3344;
-
+// Where the alarm walk begins in a store.
 const WALK: usize = 95;
-
-const LIVE: usize = 100;
-
-const UPLOAD: usize = 1722;
 
 // Where the slots begin in a block, and the length of one.
 const SLOTS: usize = 2;
@@ -74,9 +71,9 @@ pub fn write_fresh(store: &mut [u8], large: bool)
     requires { ⌜ store-length ≤ length (now store) ⌝ }
     ensures { λ _. ⌜ now (store .exit) ≡ stored large (fresh (cat-of large)) (now (store .entry)) ⌝ }
 {
-    octets::zero(&mut store[0..STORE]);
+    octets::zero(&mut store[0..END]);
     store[0] = product(large);
-    begin_slots(&mut store[LIVE..UPLOAD], large, true);
+    begin_slots(&mut store[LIVE..FROZEN], large, true);
 }
 
 // Resets the live block: the counter and the number of places in use, the slots, the places.
@@ -95,11 +92,11 @@ pub fn reset(store: &mut [u8], large: bool, class: u16, number: u16, out: &mut [
     requires { ⌜ Sound large (now store) × (now out ≡ replicate 32 0) ⌝ }
     ensures { λ _. ⌜ Leaves large (reset (cat-of large) (state-in large (now (store .entry))) class number) (now (store .entry)) (now (store .exit)) (now (out .exit)) ⌝ }
 {
-    if !instances::is_there(&store[LIVE..UPLOAD], large, class, number) {
+    if !instances::is_there(&store[LIVE..FROZEN], large, class, number) {
         out[0] = UNKNOWN_INSTANCE;
         return;
     }
-    reset_block(&mut store[LIVE..UPLOAD], large);
+    reset_block(&mut store[LIVE..FROZEN], large);
     octets::zero(&mut store[WALK..LIVE]);
-    octets::zero(&mut store[UPLOAD..STORE]);
+    octets::zero(&mut store[FROZEN..END]);
 }

@@ -1,4 +1,6 @@
 // Set: writes attributes of an instance, all that it names or none.
+use soundness::FROZEN;
+use soundness::LIVE;
 use table::Found;
 ghost use mathlib.Core.Path.{_≡_};
 ghost use mathlib.Core.List.{[], _∷_, _++_};
@@ -15,11 +17,6 @@ ghost use Rattle.table.specs.Places.{InShape};
 ghost use Rattle.laying.specs.Lays.{Laying};
 ghost use Rattle.holding.specs.Held.{state-in, Sound, Leaves};
 ghost use Rattle.setting.specs.Sets.{set-contents, refusing, written, live-in, SetAt};
-
-// The live table in a store.
-const LIVE: usize = 100;
-
-const LIVE_END: usize = 1722;
 
 // Where the values begin in a Set's contents, and where these end.
 const VALUES: usize = 2;
@@ -110,7 +107,7 @@ fn set_at(store: &mut [u8], large: bool, class: u16, at: usize, v: &[u8], out: &
 {
     let asked = octets::number_at(v, 0);
     let refusal = set_refusal(
-        &store[LIVE..LIVE_END],
+        &store[LIVE..FROZEN],
         large,
         class,
         at,
@@ -119,7 +116,7 @@ fn set_at(store: &mut [u8], large: bool, class: u16, at: usize, v: &[u8], out: &
     );
     match refusal {
         SetRefusal::Accepted => write_set(
-            &mut store[LIVE..LIVE_END],
+            &mut store[LIVE..FROZEN],
             large,
             class,
             at,
@@ -138,7 +135,7 @@ pub fn set(store: &mut [u8], large: bool, class: u16, number: u16, v: &[u8], out
     ensures { λ _. ⌜ Leaves large (set (cat-of large) (state-in large (now (store .entry))) class number (now (v .entry)))
         (now (store .entry)) (now (store .exit)) (now (out .exit)) ⌝ }
 {
-    let found = instances::locate(&store[LIVE..LIVE_END], large, class, number);
+    let found = instances::locate(&store[LIVE..FROZEN], large, class, number);
     match found {
         Found::At(at) => set_at(store, large, class, at, v, out),
         Found::Nothing => out[0] = UNKNOWN_INSTANCE,

@@ -10,6 +10,13 @@ ghost use Rattle.store.specs.Decode.{sound};
 ghost use Rattle.contents.specs.Tests.{alarms-test};
 ghost use Rattle.soundness.specs.Tests.{key-in, place-test, places-test, table-test, memory-test, optional-test, store-test};
 
+// Where a store's live table begins, with the counter in front; where the frozen one begins, with a mark in front; where the store ends.
+pub const LIVE: usize = 100;
+
+pub const FROZEN: usize = 1722;
+
+pub const END: usize = 3344;
+
 // The key that a place begins with, as a number that can still grow by one.
 fn key_of(r: &[u8]) -> u64
     requires { ⌜ 4 ≤ length (now r) ⌝ }
@@ -105,15 +112,15 @@ fn parts_ok(large: bool, s: &[u8]) -> bool
 {
     memory_part_ok(&s[2..91])
         & (contents::alarms_ok(large, &s[91..95])
-            & (walk_part_ok(large, &s[95..100])
-                & (table_ok(large, &s[101..1722]) & upload_part_ok(large, &s[1722..3344]))))
+            & (walk_part_ok(large, &s[95..LIVE])
+                & (table_ok(large, &s[101..FROZEN]) & upload_part_ok(large, &s[FROZEN..END]))))
 }
 
 // Is a store sound?
 pub fn store_ok(s: &[u8]) -> bool
     ensures { λ r. ⌜ r ≡ sound built-products (now (s .entry)) ⌝ }
 {
-    if s.len() < 3344 {
+    if s.len() < END {
         return false;
     }
     match s[0] {

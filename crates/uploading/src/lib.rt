@@ -1,5 +1,8 @@
 // MIB upload and MIB upload next: the first freezes the table, the second shows a section of what was frozen.
 use sections::Section;
+use soundness::END;
+use soundness::FROZEN;
+use soundness::LIVE;
 use table::Found;
 use table::Which;
 ghost use mathlib.Core.Path.{_≡_};
@@ -16,14 +19,6 @@ ghost use Rattle.store.specs.Layout.{table-length};
 ghost use Rattle.catalogue.specs.CatOf.{cat-of};
 ghost use Rattle.holding.specs.Held.{Sound, state-in, Leaves};
 ghost use Rattle.uploading.specs.SectionBytes.{frozen-block, section-bytes, Showable};
-
-// Where the block of the live table begins, and that of the frozen one: a mark, and the table.
-const LIVE: usize = 100;
-
-const FROZEN: usize = 1722;
-
-// Where the store ends.
-const END: usize = 3344;
 
 // The length of a table without the byte in front.
 const TABLE: usize = 1621;
