@@ -7,44 +7,27 @@ use mathlib.Core.Option.{some}
 use mathlib.Core.List.{List, [], _∷_}
 use lib.ListN.{length}
 use lib.Dec.{eqb}
-use Rattle.rules.specs.Maps.{_and_, Map, is-some, keys, each, at-key, among, rising}
+use Rattle.rules.specs.Maps.{Map, is-some, keys, each, at-key, rising}
 use Rattle.rules.specs.Bytes.{laid}
-use Rattle.rules.specs.Catalogue.{Class, Catalogue, class, known, is-stored, stored-numbers, is-created, leader, family, key, ont-data}
-use Rattle.rules.specs.State.{Contents, Entry, Table, class-of, entry, contents, overwrite, change}
-use Rattle.rules.specs.Legal.{legal-contents, automatic-keys}
+use Rattle.rules.specs.Catalogue.{Class, Catalogue, class, known, is-stored, stored-numbers, leader, key}
+use Rattle.rules.specs.State.{Contents, Entry, Table, entry, contents, overwrite, change}
+use Rattle.rules.specs.Legal.{legal-contents}
 use Rattle.rules.specs.WellFormed.{WellFormed}
-use Rattle.rules.proofs.Laws.{cases, never, true-false, both, or-cases, eqb-eq, all-among, every-find, find-some}
-use Rattle.rules.proofs.MapLaws.{some-eq, Each, rising-keep, length-keys}
-use Rattle.rules.proofs.Families.{family-classes, family-has}
-use Rattle.rules.proofs.Standing.{stands, automatic-keys-stand, stands-leads, key-class}
-use Rattle.store.specs.Layout.{table-length, contents-bytes, contents-width, family-width, fits}
+use Rattle.rules.proofs.Laws.{every-find, find-some}
+use Rattle.rules.proofs.MapLaws.{rising-keep}
+use Rattle.store.specs.Layout.{table-length, contents-bytes, contents-width, fits}
 use Rattle.store.proofs.ContentsBack.{legal-keys, legal-sized, contents-length}
-use Rattle.store.proofs.Widths.{slots-are-enough, places-are-enough, slot-fits, class-2-fits, place-fits}
 use Rattle.kept.proofs.NewContents.{attributes-in-order}
 use Rattle.kept.proofs.Tables.{LegalEntry, LegalLive}
 use Rattle.kept.proofs.Holds.{There, holds-there, entry-legal}
 use Rattle.instances.proofs.HeldAt.{held-at}
 use Rattle.octets.proofs.Laid.{laid-all, part-laid-inside}
-use Rattle.table.specs.Spots.{live-bytes, position, before, inside, slot-at, place-at, spot-among, spot}
-use Rattle.table.proofs.TableLaid.{at-some}
+use Rattle.table.specs.Spots.{live-bytes, spot}
 use Rattle.table.proofs.StateLaid.{live-length}
-use Rattle.table.proofs.Positions.{position-among, position-small}
 use Rattle.table.proofs.Parted.{part}
 use Rattle.laying.specs.Lays.{laid-values}
 use Rattle.table.proofs.ChangeLaid.{change-laid}
 use Rattle.laying.proofs.Overwritten.{Sized, length-laid-values, values-in-part, overwrite-laid}
-
--- a class's contents are within its family's
-within-family : (cat : Catalogue) (fam : Map Class) (c : ℕ) → Each (λ d k. class cat d ≡ k) fam → among c (keys fam) ≡ true
-    → before fam c + contents-width (class cat c) ≤ family-width fam
-unfolding before family-width keys among
-within-family cat [] c cl h = never h
-within-family cat (e ∷ fam) c cl h = cases (eqb c (e .0))
-    (λ t. let z : class cat c ≡ e .1 = ap (class cat) (eqb-eq c (e .0) t) ∙ cl .0 in rw (t, z) (omega arith))
-    (λ t.
-    let later : among c (keys fam) ≡ true = or-cases h (λ y. true-false y t) (λ y. y) in
-    let r : before fam c + contents-width (class cat c) ≤ family-width fam = within-family cat fam c (cl .1) later in
-    rw t (omega arith))
 
 either : {A : Type 0} (b : Bool) (x : A) → cond b x x ≡ x
 either true x = refl
@@ -56,41 +39,6 @@ as-they-are f h [] = refl
 as-they-are f h (e ∷ m) = rw (h (e .0) (e .1), as-they-are f h m)
 
 module _ (cat : Catalogue) (wf : WellFormed cat) (ft : fits cat ≡ true) (t : Table) (h : LegalLive cat wf t) (c i : ℕ) (lt : i < 65536) (kn : known cat c ≡ true) where
-  in-family : inside cat c + contents-width (class cat c) ≤ family-width (family cat (leader cat c))
-  in-family = within-family cat (family cat (leader cat c)) c (family-classes cat wf (leader cat c)) (family-has cat wf c kn)
-
-  -- where an instance's contents begin, there is room for them
-  pub spot-room : (o : ℕ) → spot cat t c i ≡ some o → o + contents-width (class cat c) ≤ 1 + table-length
-  unfolding spot-among
-  spot-room o sp = cases (is-created (class cat (leader cat c) .creation))
-      (λ cr. at-some (λ j. place-at j + 4 + inside cat c) (position (key (leader cat c) i) (keys (t .created))) o (rw cr at sp) (λ j p e.
-      let small = position-small (key (leader cat c) i) j (keys (t .created)) p in
-      let lk = length-keys (t .created) in
-      let few = places-are-enough cat ft in
-      let places = h .in-places in
-      let fit = place-fits cat ft wf (leader cat c) cr in
-      let room = in-family in
-      omega arith))
-      (λ au. cases (eqb c ont-data and eqb i 0)
-      (λ e.
-      let two : c ≡ ont-data = eqb-eq c ont-data (both e .0) in
-      let o0 : 0 ≡ o = some-eq (rw (au, e) at sp) in
-      let leads : leader cat c ≡ ont-data = rw (two, wf .class-2-has-instance-0-alone) refl in
-      let fit = class-2-fits cat ft wf in
-      let same : family-width (family cat (leader cat c)) ≡ family-width (family cat ont-data) = ap (λ (d : ℕ). family-width (family cat d)) leads in
-      let room = in-family in
-      omega arith)
-      (λ e. at-some slot-at (position (key c i) (automatic-keys cat)) o (rw (au, e) at sp) (λ j p eq.
-      let k : ℕ = key c i in
-      let sk : stands cat k ≡ true = all-among (stands cat) (automatic-keys cat) (automatic-keys-stand cat wf) k (sym (position-among k (automatic-keys cat)) ∙ ap is-some p) in
-      let leads : leader cat c ≡ c = rw (key-class c i lt) at (stands-leads cat wf k sk) in
-      let fit = slot-fits cat ft wf k sk in
-      let same : family-width (family cat (leader cat c)) ≡ family-width (family cat (class-of k)) = ap (λ (d : ℕ). family-width (family cat d)) (leads ∙ sym (key-class c i lt)) in
-      let small = position-small k j (automatic-keys cat) p in
-      let few = slots-are-enough cat ft in
-      let room = in-family in
-      omega arith)))
-
   stored-rise : rising (stored-numbers (class cat c)) ≡ true
   unfolding stored-numbers
   stored-rise = rising-keep (λ n a. is-stored (a .source)) (class cat c .attributes) (attributes-in-order cat wf c kn)
@@ -98,7 +46,8 @@ module _ (cat : Catalogue) (wf : WellFormed cat) (ft : fits cat ≡ true) (t : T
   abbrev own : Contents
   own = contents cat t c i
 
-  module _ (o : ℕ) (sp : spot cat t c i ≡ some o) where
+  -- its contents begin at a place with room for them
+  module _ (o : ℕ) (sp : spot cat t c i ≡ some o) (room : o + contents-width (class cat c) ≤ 1 + table-length) where
     pub legal-at-spot : legal-contents cat (class cat c) own ≡ true
     unfolding contents entry
     legal-at-spot =
@@ -134,7 +83,6 @@ module _ (cat : Catalogue) (wf : WellFormed cat) (ft : fits cat ≡ true) (t : T
     pub contents-at : part o (contents-width (class cat c)) (live-bytes t) ≡ contents-bytes own
     contents-at =
         let e : live-bytes t ≡ laid o (contents-bytes own) (live-bytes t) = ap live-bytes (sym unchanged) ∙ contents-laid-at (λ r. r) own-length in
-        let room = spot-room o sp in
         let l = live-length t in
         let q : part o (length (contents-bytes own)) (laid o (contents-bytes own) (live-bytes t)) ≡ contents-bytes own =
         part-laid-inside o (contents-bytes own) (live-bytes t) (omega (arith, own-length)) in
@@ -149,7 +97,6 @@ module _ (cat : Catalogue) (wf : WellFormed cat) (ft : fits cat ≡ true) (t : T
         overwrite-laid k stored-rise new own up s (legal-keys cat k own legal-at-spot) (legal-sized cat k own legal-at-spot) in
         let lw : length (contents-bytes (overwrite new own)) ≡ contents-width k =
         ap length over ∙ length-laid-values k 0 new (contents-bytes own) s (omega (arith, own-length)) ∙ own-length in
-        let room = spot-room o sp in
         let l = live-length t in
         contents-laid-at (overwrite new) lw
         ∙ ap (λ (v : List ℕ). laid o v (live-bytes t)) (over ∙ ap (laid-values k 0 new) (sym contents-at))

@@ -1,62 +1,32 @@
--- What stands where an instance's contents begin: room for them all, and each content at its place.
-use Prim.Native.Nat.{ℕ, _+_, _≤_, _<_}
-use native.Mathlib.Omega.{arith}
+-- What stands where an instance's contents begin: each content at its place.
+use Prim.Native.Nat.{ℕ, _+_, _<_}
 use mathlib.Core.Path.{_≡_, refl, sym, _∙_}
 use mathlib.Core.Bool.{Bool, true, false, not}
 use mathlib.Core.Option.{some}
 use mathlib.Core.Logic.{_≢_}
 use mathlib.Core.List.{List, [], _∷_}
-use lib.ListN.{length}
 use lib.Dec.{eqb}
-use Rattle.rules.specs.Maps.{_and_, Map, find, keep, among}
+use Rattle.rules.specs.Maps.{Map, find, keep, among}
 use Rattle.rules.specs.Bytes.{fill}
-use Rattle.rules.specs.Catalogue.{Catalogue, class, attribute, size-of, is-created, leader, key, ont-data, stored-numbers}
+use Rattle.rules.specs.Catalogue.{Catalogue, class, attribute, size-of, leader, key, ont-data, stored-numbers}
 use Rattle.rules.specs.State.{Contents, Entry, Table, class-of, entries, entry, contents, content}
-use Rattle.rules.specs.Legal.{automatic-keys}
 use Rattle.rules.specs.Walks.{frozen}
 use Rattle.rules.specs.Products.{ont-data-class}
 use Rattle.rules.specs.WellFormed.{WellFormed}
 use Rattle.rules.proofs.Laws.{cases, true-false, eqb-eq, every-find, find-some, has-among}
-use Rattle.rules.proofs.MapLaws.{some-eq, keep-passes}
+use Rattle.rules.proofs.MapLaws.{keep-passes}
 use Rattle.rules.proofs.ByteLaws.{length-fill}
 use Rattle.kept.proofs.Tables.{LegalLive, frozen-legal}
 use Rattle.kept.proofs.Holds.{There, holds-there, found-in, find-in-created, find-in-automatic, is-created-one, created-alone}
-use Rattle.store.specs.Layout.{ont-data-width, entry-bytes, contents-width, fits}
+use Rattle.store.specs.Layout.{ont-data-width, entry-bytes, fits}
 use Rattle.store.proofs.ContentsBack.{legal-keys}
-use Rattle.catalogue.specs.CatOf.{cat-of, class-for}
+use Rattle.catalogue.specs.CatOf.{class-for}
 use Rattle.catalogue.specs.Describes.{offset-of}
 use Rattle.catalogue.specs.Computing.{computing-tables}
 use Rattle.catalogue.proofs.ClassLaws.{class-2}
-use Rattle.catalogue.proofs.ProductLaws.{inside-fits}
-use Rattle.table.specs.Spots.{live-bytes, position, inside, slot-at, place-at, spot-among, spot}
-use Rattle.table.specs.Places.{InShape, keys-in}
+use Rattle.table.specs.Spots.{live-bytes, spot}
 use Rattle.table.proofs.Parted.{part}
-use Rattle.table.proofs.TableLaid.{at-some}
 use Rattle.table.proofs.TableRead.{AtSpot, at-spot}
-use Rattle.instances.proofs.Located.{place-small, slot-small}
-
--- ---- room
-
-module _ (l : Bool) (b : List ℕ) (h : InShape b) (c i : ℕ) where
-  -- all contents of an instance are behind its spot
-  pub spot-room : {o : ℕ} → spot-among (cat-of l) (keys-in b) c i ≡ some o → o + contents-width (class-for l c) ≤ length b
-  unfolding spot-among
-  spot-room {o} sp =
-      let cat : Catalogue = cat-of l in
-      let k : ℕ = key (leader cat c) i in
-      let wide = inside-fits l c in
-      let long = h .long in
-      cases (is-created (class cat (leader cat c) .creation))
-      (λ cr. at-some (λ j. place-at j + 4 + inside cat c) (position k (keys-in b)) o (rw cr at sp) (λ j p eq.
-      let small : j < 40 = place-small b h k p refl in
-      omega arith))
-      (λ au. cases (eqb c ont-data and eqb i 0)
-      (λ e. let z : 0 ≡ o = some-eq (rw (au, e) at sp) in omega arith)
-      (λ e. at-some slot-at (position (key c i) (automatic-keys cat)) o (rw (au, e) at sp) (λ j p eq.
-      let small : j < 4 = slot-small l (key c i) p refl in
-      omega arith)))
-
--- ---- a content where it stands
 
 -- class 2 has nothing that is reported
 nothing-of-class-2 : (n : ℕ) → attribute ont-data-class n .L ≡ false

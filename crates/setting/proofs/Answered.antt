@@ -31,15 +31,16 @@ use Rattle.table.specs.Spots.{live-bytes, spot-among, spot}
 use Rattle.table.specs.Places.{keys-in}
 use Rattle.table.proofs.PlaceKeys.{live-keys}
 use Rattle.instances.proofs.HeldAt.{there-is-held}
+use Rattle.instances.proofs.SpotRoom.{spot-room}
 use Rattle.judging.specs.Judges.{is-in, bad-among}
 use Rattle.judging.proofs.Held.{bad-in-table}
 use Rattle.laying.specs.Lays.{laid-values}
 use Rattle.laying.proofs.Overwritten.{Sized, cut-is-sized}
-use Rattle.laying.proofs.TableWritten.{spot-room, table-laid}
+use Rattle.laying.proofs.TableWritten.{table-laid}
 use Rattle.counting.specs.Counts.{moved-on}
 use Rattle.counting.proofs.Counted.{counter-moved}
 use Rattle.holding.specs.Held.{state-in, Sound, Leaves}
-use Rattle.holding.proofs.Held.{as-stored, live-is, live-held, live-opened, live-changed}
+use Rattle.holding.proofs.Held.{as-stored, live-is, live-held, live-shaped, live-opened, live-changed}
 use Rattle.setting.specs.Sets.{refusing, counted-by, written, live-in, values-in, SetAt}
 use Rattle.setting.proofs.Refused.{Passed, passed}
 use Rattle.setting.proofs.Wrote.{all-are-stored, put-result-is}
@@ -92,7 +93,7 @@ module _ (l : Bool) (b : List ℕ) (h : Sound l b) (c i : ℕ) (lt : i < 65536) 
     is-known = holds-known cat wf t (live-opened l b h) c i there .is-known
 
     pub its-room : at + contents-width k ≤ 1 + table-length
-    its-room = spot-room cat wf (fits-of l) t (live-opened l b h) c i lt is-known at its-spot
+    its-room = let shape = live-shaped l b h in let long = shape .long in let room = spot-room l block shape c i p in omega arith
 
     module _ (v : List ℕ) (long : length v ≡ 32) (byte-v : are-bytes v ≡ true) where
       values-are : values-in v ≡ drop 2 v
@@ -144,7 +145,7 @@ module _ (l : Bool) (b : List ℕ) (h : Sound l b) (c i : ℕ) (lt : i < 65536) 
         laid-are =
             ap (λ (x : List ℕ). laid-values k at (cut (size-of k) (named (two v 0)) x) block) values-are
             ∙ ap (laid-values k at (set-by k v)) (live-is l b h)
-            ∙ sym (table-laid cat wf (fits-of l) t (live-opened l b h) c i lt is-known at its-spot (set-by k v) in-order sized)
+            ∙ sym (table-laid cat wf (fits-of l) t (live-opened l b h) c i lt is-known at its-spot its-room (set-by k v) in-order sized)
 
         written-are : written l c at (two v 0) (values-in v) block ≡ live-bytes (moved-by-set cat c changed)
         unfolding written counted-by moved-by-set

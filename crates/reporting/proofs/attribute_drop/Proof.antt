@@ -1,6 +1,6 @@
 use mathlib.Core.Path.{sym, _∙_, ap}
 use Rattle.table.specs.Places.{found-of}
-use Rattle.reporting.proofs.Rooms.{spot-room}
+use Rattle.instances.proofs.SpotRoom.{spot-room}
 use Rattle.reporting.proofs.Drops.{drop-found, drop-missing}
 use borrow.Author.Needs.{needs}
 use Rattle.reporting.proofs.attribute_drop.Statement.{statement}

@@ -1,7 +1,7 @@
 use mathlib.Core.Path.{sym, _∙_, ap}
 use native.Mathlib.Omega.{arith}
 use Rattle.table.specs.Places.{found-of}
-use Rattle.reporting.proofs.Rooms.{spot-room}
+use Rattle.instances.proofs.SpotRoom.{spot-room}
 use Rattle.reporting.proofs.Writes.{write-found, write-missing}
 use borrow.Author.Needs.{needs}
 use Rattle.reporting.proofs.write_content.Statement.{statement}
