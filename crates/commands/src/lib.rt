@@ -1,5 +1,7 @@
 // A command goes to the function that answers it.
 use catalogue::classes;
+use outcome::NOT_SUPPORTED;
+use outcome::UNKNOWN_CLASS;
 ghost use mathlib.Core.Path.{_≡_};
 ghost use mathlib.Core.Bool.{false};
 ghost use lib.ListN.{length, replicate};
@@ -26,10 +28,6 @@ const UPLOAD: u8 = 13;
 const UPLOAD_NEXT: u8 = 14;
 
 const RESET: u8 = 15;
-
-const NOT_SUPPORTED: u8 = 2;
-
-const UNKNOWN_CLASS: u8 = 4;
 
 // Has the reply to this command a result?
 fn has_result(kind: u8) -> bool

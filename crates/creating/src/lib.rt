@@ -1,6 +1,9 @@
 // Create: a new instance of a created class, with those that come with it.
 use catalogue::classes;
 use catalogue::masks;
+use outcome::BAD_PARAMETER;
+use outcome::INSTANCE_EXISTS;
+use outcome::NO_PLACE;
 use soundness::FROZEN;
 use soundness::LIVE;
 use table::Found;
@@ -24,12 +27,6 @@ const KEY: usize = 4;
 
 // How many places there are.
 const PLACES: usize = 40;
-
-const NO_PLACE: u8 = 1;
-
-const BAD_PARAMETER: u8 = 3;
-
-const INSTANCE_EXISTS: u8 = 7;
 
 // Writes the first contents of the stored attributes that no Create carries; `own` has those of the leading instance.
 fn lay_others(c: &mut [u8], large: bool, class: u16, own: &[u8])

@@ -1,4 +1,5 @@
 // Delete: a created instance goes, with those that came with it.
+use outcome::UNKNOWN_INSTANCE;
 use soundness::FROZEN;
 use soundness::LIVE;
 use table::Found;
@@ -13,8 +14,6 @@ ghost use Rattle.catalogue.specs.CatOf.{cat-of, class-for};
 ghost use Rattle.table.specs.Places.{InShape};
 ghost use Rattle.holding.specs.Held.{state-in, Sound, Leaves};
 ghost use Rattle.deleting.specs.Without.{without-place};
-
-const UNKNOWN_INSTANCE: u8 = 5;
 
 // Takes a place out of a live table, and moves the counter on.
 fn take_out(b: &mut [u8], j: usize)

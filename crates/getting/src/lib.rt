@@ -1,4 +1,5 @@
 // The Get command: reads attributes of an instance, and changes nothing.
+use outcome::ATTRIBUTE_FAILED;
 use refusals::GetRefusal;
 use soundness::FROZEN;
 use soundness::LIVE;
@@ -15,8 +16,6 @@ ghost use Rattle.catalogue.specs.CatOf.{cat-of};
 ghost use Rattle.table.specs.declared.Which.the-variants.{Live};
 ghost use Rattle.holding.specs.Held.{Sound, state-in};
 ghost use Rattle.reading.specs.Values.{values-at, Packable};
-
-const ATTRIBUTE_FAILED: u8 = 9;
 
 // Answers with the mask and the contents that it names, of an instance whose contents begin at `at` in the block.
 fn show(b: &[u8], large: bool, class: u16, number: u16, at: usize, asked: u16, out: &mut [u8])

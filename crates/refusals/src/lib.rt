@@ -1,4 +1,6 @@
 // Whether a command is refused, and with what: nothing is changed here.
+use outcome::BAD_PARAMETER;
+use outcome::UNKNOWN_INSTANCE;
 ghost use Rattle.table.specs.Places.{InShape};
 ghost use Rattle.catalogue.specs.CatOf.{cat-of, class-for};
 ghost use mathlib.Core.Path.{_≡_};
@@ -6,10 +8,6 @@ ghost use Rattle.rules.specs.Maps.{first-that-applies};
 ghost use Rattle.rules.specs.Commands.{get-results};
 ghost use Rattle.instances.specs.Live.{there-in};
 ghost use Rattle.refusals.specs.Refused.{get-contents};
-
-const BAD_PARAMETER: u8 = 3;
-
-const UNKNOWN_INSTANCE: u8 = 5;
 
 // The most bytes that the reply to a Get has room for.
 const GET_ROOM: usize = 25;

@@ -1,6 +1,7 @@
 // MIB reset, and the fresh store of a power-on: first contents.
 use catalogue::masks;
 use catalogue::slots;
+use outcome::UNKNOWN_INSTANCE;
 use soundness::END;
 use soundness::FROZEN;
 use soundness::LIVE;
@@ -15,8 +16,6 @@ ghost use Rattle.store.specs.Layout.{slots-length, table-length};
 ghost use Rattle.catalogue.specs.CatOf.{cat-of, class-for, product-of};
 ghost use Rattle.holding.specs.Held.{state-in, Sound, stored, Leaves};
 ghost use Rattle.resetting.specs.Resets.{begun, slots-begun, block-reset};
-
-const UNKNOWN_INSTANCE: u8 = 5;
 
 // Where the alarm walk begins in a store.
 const WALK: usize = 95;

@@ -1,4 +1,7 @@
 // Set: writes attributes of an instance, all that it names or none.
+use outcome::ATTRIBUTE_FAILED;
+use outcome::BAD_PARAMETER;
+use outcome::UNKNOWN_INSTANCE;
 use soundness::FROZEN;
 use soundness::LIVE;
 use table::Found;
@@ -28,12 +31,6 @@ const SET_ROOM: usize = 30;
 
 // The class whose attribute is the sync counter.
 const ONT_DATA: u16 = 2;
-
-const BAD_PARAMETER: u8 = 3;
-
-const UNKNOWN_INSTANCE: u8 = 5;
-
-const ATTRIBUTE_FAILED: u8 = 9;
 
 pub enum SetRefusal {
     Accepted,
