@@ -29,7 +29,7 @@ use Rattle.kept.proofs.Tables.{LegalEntry, LegalLive}
 use Rattle.kept.proofs.Holds.{There, holds-there, there-holds, entry-legal, has-each, created-alone}
 use Rattle.kept.proofs.NewContents.{C-is-stored}
 use Rattle.kept.proofs.CommandsKept.{delete-good}
-use Rattle.demands.proofs.DemandOne.{sent}
+use Rattle.kept.proofs.Outcomes.{sent}
 use Rattle.demands.proofs.Gets.{read-stored, values-are, an-accepted-get-replies-what-it-names}
 use Rattle.kept.proofs.ReplyBytes.{the-result-is-byte-8}
 use Rattle.demands.proofs.AccidentOnBytes.{IsNoRepeat, answered-anew}

@@ -27,6 +27,7 @@ use Rattle.store.specs.Entries.{Left, written, leave, refuse, enter, power-on}
 use Rattle.store.specs.Fitting.{AllFit}
 use Rattle.store.proofs.Built.{built-products-fit}
 use Rattle.store.proofs.Soundness.{sound-is-an-encoding, legal-length, decode-of-held, decode-of-written, length-written}
+use Rattle.kept.proofs.Outcomes.{drop-of, sent}
 use Rattle.kept.proofs.Refusals.{first-has}
 use Rattle.kept.proofs.LegalStates.{open-state, close-state}
 use Rattle.kept.proofs.Kept.{OfBytes, SentIsAMessage, taken-fine, the-fresh-state-is-legal}
@@ -39,22 +40,10 @@ call-drops cat s (message m) = message-drops m
 call-drops cat s (attribute-report c i n v) = attribute-drops cat s c i n v
 call-drops cat s (alarm-report c i n on) = alarm-drops cat s c i n
 
--- the number that a call was dropped with, if it was
-abbrev pub drop-of : Outcome → Option ℕ
-drop-of (dropped n) = some n
-drop-of quiet = none
-drop-of (answered r) = none
-
 abbrev is-quiet : Outcome → Option ℕ
 is-quiet (dropped n) = none
 is-quiet quiet = some 0
 is-quiet (answered r) = none
-
--- what is sent
-abbrev pub sent : Outcome → List ℕ
-sent (dropped n) = []
-sent quiet = []
-sent (answered r) = r
 
 -- the messages' list is the page's: 3 length, 4 device, 5 type bits, 6 id, 7 fixed bytes
 pub the-drops-of-a-message : (m : List ℕ) → message-drops m

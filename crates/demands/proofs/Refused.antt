@@ -22,7 +22,8 @@ use Rattle.store.specs.Entries.{enter}
 use Rattle.store.specs.Fitting.{AllFit}
 use Rattle.kept.proofs.Refusals.{unless-refused-is, unless-dropped-is, first-has}
 use Rattle.kept.proofs.ReplyBytes.{the-result-is-byte-8}
-use Rattle.demands.proofs.DemandOne.{sent, the-outcome-is-the-rules, the-store-holds-what-the-rules-leave}
+use Rattle.kept.proofs.Outcomes.{sent}
+use Rattle.demands.proofs.DemandOne.{the-outcome-is-the-rules, the-store-holds-what-the-rules-leave}
 
 -- ---- commands
 

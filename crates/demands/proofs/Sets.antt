@@ -33,7 +33,7 @@ use Rattle.kept.proofs.Holds.{There, holds-there, find-in-automatic, entry-lega
 use Rattle.kept.proofs.Counter.{contents-legal}
 use Rattle.kept.proofs.ReplyBytes.{the-result-is-byte-8}
 use Rattle.extending.proofs.Cuts.{cut-none}
-use Rattle.demands.proofs.DemandOne.{sent}
+use Rattle.kept.proofs.Outcomes.{sent}
 use Rattle.demands.proofs.AccidentOnBytes.{IsNoRepeat, answered-anew}
 
 -- ---- the contents after a change of one instance

@@ -12,7 +12,7 @@ use Rattle.rules.specs.Bytes.{byte, two, are-bytes}
 use Rattle.rules.specs.Catalogue.{Catalogue}
 use Rattle.rules.specs.State.{Memory, State}
 use Rattle.rules.specs.Messages.{message-number, class-in, instance-in, contents-in, message-drops, reply-to, Answer}
-use Rattle.rules.specs.Reports.{Outcome, dropped, quiet, answered, unless-dropped}
+use Rattle.rules.specs.Reports.{Outcome, dropped, answered, unless-dropped}
 use Rattle.rules.specs.Run.{answer, is-repeat, remember, answer-anew, answer-again, handle, Call, message, attribute-report, alarm-report}
 use Rattle.rules.specs.WellFormed.{WellFormed}
 use Rattle.rules.specs.Extends.{Extends}
@@ -20,6 +20,7 @@ use Rattle.rules.proofs.Laws.{cases, never, not-false, same-eq, eqb-eq}
 use Rattle.rules.proofs.MapLaws.{none-some}
 use Rattle.rules.proofs.Lookups.{implied}
 use Rattle.rules.proofs.ByteLaws.{bytes-take, bytes-drop, two-small}
+use Rattle.kept.proofs.Outcomes.{drop-of, sent}
 use Rattle.kept.proofs.Refusals.{none-applies}
 use Rattle.kept.proofs.ReplyBytes.{the-result-is-byte-8}
 use Rattle.kept.proofs.LegalStates.{LegalState}
@@ -29,21 +30,11 @@ use Rattle.extending.proofs.Answers.{answer-matched}
 
 -- ---- outcomes
 
--- the parts of a call and of an outcome, by which two of them are told apart
+-- the message of a call, by which two of them are told apart
 abbrev message-of : Call → List ℕ
 message-of (message m) = m
 message-of (attribute-report c i n v) = v
 message-of (alarm-report c i n on) = []
-
-abbrev sent : Outcome → List ℕ
-sent (dropped n) = []
-sent quiet = []
-sent (answered r) = r
-
-abbrev drop-of : Outcome → Option ℕ
-drop-of (dropped n) = some n
-drop-of quiet = none
-drop-of (answered r) = none
 
 -- two replies that are the same where they must be
 both-answered : (m r q : List ℕ) → (must-be-the-same m r ≡ true → q ≡ r) → SameOutcome (message m) (answered r) (answered q)

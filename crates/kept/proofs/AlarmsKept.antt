@@ -1,26 +1,19 @@
 -- Alarms stay legal: turned on or off, frozen, and gone with their instance.
-use Prim.Native.Nat.{ℕ, zero, suc, _+_, _*_, _≤_, _<_}
+use Prim.Native.Nat.{ℕ, zero, suc, _+_}
 use native.Mathlib.Omega.{arith}
-use mathlib.Core.Path.{_≡_, refl, sym, _∙_, ap}
-use mathlib.Core.Bool.{Bool, true, false, not, cond}
+use mathlib.Core.Path.{_≡_, refl, _∙_}
+use mathlib.Core.Bool.{Bool, true, false, not}
 use mathlib.Core.Option.{Option, none, some}
-use mathlib.Core.List.{List, [], _∷_, _++_, map}
-use mathlib.Core.Logic.{_≢_}
-use lib.ListN.{length, set, getD, replicate, length-set, length-replicate, length-map}
-use lib.Dec.{eqb, ltb, leb}
-use Rattle.rules.specs.Maps.{_and_, _or_, Map, given, find, has, keys, put, keep, remove, every, among, distinct, put-if, all, rising}
-use Rattle.rules.specs.Catalogue.{Class, Catalogue, class, known, is-created, leader, key}
-use Rattle.rules.specs.State.{Table, Alarms, class-of, number-of, holds, alarms-of, entries}
-use Rattle.rules.specs.Legal.{declared-from, some-on, legal-bitmap, legal-bitmaps, there-or-gone, walked-entries, legal-walk}
+use mathlib.Core.List.{List, [], _∷_}
+use lib.ListN.{length, set, replicate, length-set, length-replicate}
+use lib.Dec.{eqb}
+use Rattle.rules.specs.Maps.{_and_, _or_, Map, given, find, keep, among, all}
+use Rattle.rules.specs.Catalogue.{Class, Catalogue, class}
+use Rattle.rules.specs.State.{Alarms, class-of, number-of, alarms-of}
+use Rattle.rules.specs.Legal.{declared-from, some-on, legal-bitmap, legal-bitmaps}
 use Rattle.rules.specs.Reports.{with-bitmap}
-use Rattle.rules.specs.WellFormed.{WellFormed, alarms-in-a-bitmap}
-use Rattle.rules.proofs.Laws.{cases, never, true-false, not-true, false-not, both, and-true, or-cases, or-left, or-right, or-none, none-or, eqb-true, eqb-false, eqb-eq, eqb-ne, ltb-lt, leb-le, le-leb, every-find, every-keep, every-put, every-imp, all-among, has-among, find-some}
-use Rattle.rules.proofs.MapLaws.{some-eq, none-some, rising-put, rising-keep, every-if-found, found-kept}
-use Rattle.rules.proofs.Lookups.{class-says}
-use Rattle.rules.proofs.Standing.{all-imp, all-self, key-class, key-number, key-back}
-use Rattle.kept.proofs.Tables.{LegalTable, LegalLive}
-use Rattle.kept.proofs.Holds.{There, holds-there, Known, holds-known, found-in, is-created-one, automatic-stands}
-use Rattle.rules.proofs.Standing.{standing-not-created}
+use Rattle.rules.proofs.Laws.{cases, both, and-true, or-left, or-right, eqb-true, eqb-eq, every-find, every-keep, every-put, every-imp}
+use Rattle.rules.proofs.MapLaws.{rising-put, rising-keep, every-if-found, found-kept}
 
 -- ---- one bitmap
 

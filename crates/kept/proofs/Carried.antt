@@ -1,22 +1,22 @@
 -- What an accepted Create or Set carries is legal.
-use Prim.Native.Nat.{ℕ, zero, suc, _+_, _≤_, _<_}
+use Prim.Native.Nat.{ℕ, _≤_}
 use native.Mathlib.Omega.{arith}
-use mathlib.Core.Path.{_≡_, refl, sym, _∙_, ap}
-use mathlib.Core.Bool.{Bool, true, false, not, cond}
-use mathlib.Core.Option.{Option, none, some}
-use mathlib.Core.List.{List, [], _∷_, _++_}
+use mathlib.Core.Path.{_≡_, refl, _∙_, ap}
+use mathlib.Core.Bool.{true, false, not}
+use mathlib.Core.Option.{none, some}
+use mathlib.Core.List.{List}
 use lib.ListN.{length, drop}
-use lib.Dec.{eqb, ltb, leb}
-use Rattle.rules.specs.Maps.{_and_, Map, given, find, has, keys, keep, every, all, among, empty, those}
+use lib.Dec.{eqb}
+use Rattle.rules.specs.Maps.{_and_, find, keep, among, empty}
 use Rattle.rules.specs.Bytes.{are-bytes}
 use Rattle.rules.specs.Masks.{total}
-use Rattle.rules.specs.Catalogue.{Verdict, fine, bad, asks, Attribute, Class, Catalogue, class, known, attribute, supported, size-of, carried-numbers, is-fixed, is-created, leader, key}
-use Rattle.rules.specs.State.{Contents, Entry, Table, State, holds, contents, content, entries, entry}
-use Rattle.rules.specs.Legal.{fixed-contents, passes, legal-content, there-or-gone}
+use Rattle.rules.specs.Catalogue.{Class, Catalogue, class, attribute, supported, size-of, carried-numbers}
+use Rattle.rules.specs.State.{Contents, Table, State, holds, contents, content}
+use Rattle.rules.specs.Legal.{fixed-contents, legal-content, there-or-gone}
 use Rattle.rules.specs.Commands.{cut, illegal, carried-by, not-zero, bad-in-create, set-by, bad-in-set, asked, unsupported, unwritable}
-use Rattle.rules.specs.WellFormed.{WellFormed, carried-bytes, unkept-bytes, carries-at-most-32}
-use Rattle.rules.proofs.Laws.{cases, never, true-false, not-true, not-false, both, and-true, eqb-eq, leb-le, every-find, find-some, has-among, all-among}
-use Rattle.rules.proofs.MapLaws.{some-eq, none-some, find-kept}
+use Rattle.rules.specs.WellFormed.{WellFormed, carried-bytes, carries-at-most-32}
+use Rattle.rules.proofs.Laws.{cases, true-false, not-true, not-false, and-true, eqb-eq, leb-le, every-find, find-some, has-among, all-among}
+use Rattle.rules.proofs.MapLaws.{find-kept}
 use Rattle.rules.proofs.Lookups.{known-attribute, C-supported, class-says, supported-known, with-W}
 use Rattle.rules.proofs.Verdicts.{passes-later}
 use Rattle.rules.proofs.ByteLaws.{keys-cut, sized-cut, bytes-cut, bytes-drop}
@@ -24,7 +24,7 @@ use Rattle.kept.proofs.Refusals.{none-of-those, none-kept, empty-front}
 use Rattle.kept.proofs.Contents.{Value, Writable}
 use Rattle.kept.proofs.NewContents.{CarriedIsLegal}
 use Rattle.kept.proofs.Tables.{LegalLive}
-use Rattle.kept.proofs.Holds.{Known, holds-known}
+use Rattle.kept.proofs.Holds.{holds-known}
 
 -- the values that a message carries for these attributes, none of them illegal
 module _ (cat : Catalogue) (wf : WellFormed cat) (t : Table) (h : LegalLive cat wf t) (k : Class) (r : Contents) (l v : List ℕ)

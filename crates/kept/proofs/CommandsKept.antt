@@ -1,31 +1,31 @@
 -- Every command leaves a legal state, and shows bytes.
-use Prim.Native.Nat.{ℕ, zero, suc, _+_, _*_, _/_, _%_, _≤_, _<_}
+use Prim.Native.Nat.{ℕ, _+_, _<_}
 use native.Mathlib.Omega.{arith}
-use mathlib.Core.Path.{_≡_, refl, sym, _∙_, ap}
-use mathlib.Core.Bool.{Bool, true, false, not, cond}
+use mathlib.Core.Path.{_≡_, refl}
+use mathlib.Core.Bool.{Bool, true, not}
 use mathlib.Core.Option.{Option, none, some}
 use mathlib.Core.List.{List, [], _∷_, _++_}
 use lib.ListN.{length, replicate}
-use lib.Dec.{eqb, ltb, leb}
-use Rattle.rules.specs.Maps.{_and_, _or_, Map, given, put, remove, among, empty, nth, first-that-applies}
+use lib.Dec.{eqb}
+use Rattle.rules.specs.Maps.{_and_, _or_, Map, given, put, remove, nth}
 use Rattle.rules.specs.Bytes.{two, bytes, are-bytes}
 use Rattle.rules.specs.Masks.{mask, total}
-use Rattle.rules.specs.Catalogue.{Class, Catalogue, class, known, size-of, is-created, leader, key, ont-data}
-use Rattle.rules.specs.State.{Contents, Entry, Table, Alarms, State, class-of, number-of, holds, contents, overwrite, change, with-counter, with-table, counter}
-use Rattle.rules.specs.Legal.{legal-frozen, legal-bitmaps}
-use Rattle.rules.specs.Messages.{Answer, unless-refused, next-number, create-number}
+use Rattle.rules.specs.Catalogue.{Class, Catalogue, class, size-of, is-created, leader, key, ont-data}
+use Rattle.rules.specs.State.{Contents, Entry, Table, Alarms, State, class-of, number-of, holds, overwrite, change, with-counter, with-table, counter}
+use Rattle.rules.specs.Legal.{legal-frozen}
+use Rattle.rules.specs.Messages.{Answer, next-number}
 use Rattle.rules.specs.Commands.{new-entry, carried-by, bad-in-create, create-results, with-created, create, move-counter, goes-with, without, delete-results, delete, asked, unsupported, unwritable, set-by, bad-in-set, set-results, moved-by-set, set, values, get-results, get, reset-table, stays, was-reset, reset-results, reset}
 use Rattle.rules.specs.Walks.{if-ont-data, sections, section-contents, frozen, Section, upload, upload-next, all-alarms, bitmap, alarms-contents, alarms-next}
 use Rattle.rules.specs.WellFormed.{WellFormed}
-use Rattle.rules.proofs.Laws.{cases, never, true-false, not-true, not-false, both, and-true, eqb-true, eqb-false, eqb-eq, leb-lt, ltb-le}
+use Rattle.rules.proofs.Laws.{cases, true-false, not-true, not-false, both, and-true, eqb-true, leb-lt, ltb-le}
 use Rattle.rules.proofs.ByteLaws.{bytes-append, bytes-cons, bytes-none, bytes-zeros, bytes-of-number, bytes-of-bits}
-use Rattle.rules.proofs.Standing.{standing, key-class, key-number}
-use Rattle.kept.proofs.Tables.{LegalEntry, LegalTable, LegalLive, open-table, close-table, new-entry-legal, create-legal, delete-legal, reset-legal, frozen-legal}
+use Rattle.rules.proofs.Standing.{standing, key-class}
+use Rattle.kept.proofs.Tables.{LegalEntry, LegalLive, open-table, close-table, new-entry-legal, create-legal, delete-legal, reset-legal, frozen-legal}
 use Rattle.kept.proofs.Holds.{holds-change, holds-create, holds-delete, holds-reset}
 use Rattle.kept.proofs.Counter.{with-counter-legal, move-counter-legal}
 use Rattle.kept.proofs.Carried.{create-carries-legal, set-carries-legal}
 use Rattle.kept.proofs.Written.{set-legal, moved-by-set-legal}
-use Rattle.kept.proofs.Refusals.{NoneApplies, unless-refused-is, first-has}
+use Rattle.kept.proofs.Refusals.{unless-refused-is, first-has}
 use Rattle.kept.proofs.AlarmsKept.{kept-legal}
 use Rattle.kept.proofs.WalksKept.{walk-legal}
 use Rattle.kept.proofs.ReplyBytes.{values-bytes}

@@ -1,21 +1,17 @@
 -- What is written into an instance leaves its contents legal.
-use Prim.Native.Nat.{ℕ, zero, suc, _+_, _≤_, _<_}
-use native.Mathlib.Omega.{arith}
-use mathlib.Core.Path.{_≡_, refl, sym, _∙_, ap, subst}
-use mathlib.Core.Bool.{Bool, true, false, not, cond}
+use Prim.Native.Nat.{ℕ}
+use mathlib.Core.Path.{_≡_, refl, _∙_}
+use mathlib.Core.Bool.{Bool, true, false, cond}
 use mathlib.Core.Option.{Option, none, some}
-use mathlib.Core.List.{List, [], _∷_, _++_, map}
-use lib.ListN.{length, take, drop, replicate}
-use lib.Dec.{eqb, ltb, leb}
-use Rattle.rules.specs.Maps.{_and_, _or_, Map, given, put-if, is-some, find, has, keys, keep, every, each, same}
+use mathlib.Core.List.{List, []}
+use lib.ListN.{length}
+use lib.Dec.{eqb}
+use Rattle.rules.specs.Maps.{_and_, _or_, given, find, has, keys, every, each, same}
 use Rattle.rules.specs.Bytes.{are-bytes}
-use Rattle.rules.specs.Catalogue.{Verdict, fine, bad, asks, First, constant, copied, Source, stored, of-creator, count-of, Attribute, Creation, created, automatic, comes-with, Class, Catalogue, class, known, attribute, no-attribute, no-class, supported, size-of, is-stored, stored-numbers, is-fixed, is-created, leader}
-use Rattle.rules.specs.State.{Contents, content, overwrite, holds}
-use Rattle.rules.specs.Legal.{fixed-contents, passes, legal-content, there-or-gone, legal-contents}
-use Rattle.rules.specs.Commands.{first-content, new-contents, reset-contents}
-use Rattle.rules.specs.WellFormed.{WellFormed}
-use Rattle.rules.proofs.Laws.{cases, never, true-false, not-true, both, and-true, or-cases, eqb-true, eqb-false, eqb-eq, eqb-ne, same-eq, eq-same, every-find, every-imp, keys-each, every-each, find-each}
-use Rattle.rules.proofs.MapLaws.{some-eq, none-some}
+use Rattle.rules.specs.Catalogue.{Class, Catalogue, attribute, size-of, stored-numbers, is-fixed}
+use Rattle.rules.specs.State.{Contents, content, overwrite}
+use Rattle.rules.specs.Legal.{fixed-contents, legal-content, there-or-gone, legal-contents}
+use Rattle.rules.proofs.Laws.{cases, true-false, both, and-true, eqb-true, eqb-eq, same-eq, eq-same, every-imp, keys-each, every-each, find-each}
 
 -- a content as a legal state has it, in an instance whose contents are r
 pub record Value (cat : Catalogue) (k : Class) (r : Contents) (n : ℕ) (v : List ℕ) : Type 0 where

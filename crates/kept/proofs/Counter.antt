@@ -1,26 +1,24 @@
 -- The counter stays a byte, and what writes it leaves the table legal.
-use Prim.Native.Nat.{ℕ, zero, suc, _+_, _*_, _≤_, _<_}
+use Prim.Native.Nat.{ℕ, _<_}
 use native.Mathlib.Omega.{arith}
-use mathlib.Core.Path.{_≡_, refl, sym, _∙_, ap}
-use mathlib.Core.Bool.{Bool, true, false, not, cond}
+use mathlib.Core.Path.{_≡_, refl, sym, _∙_}
 use mathlib.Core.Option.{Option, none, some}
-use mathlib.Core.List.{List, [], _∷_, _++_}
-use lib.ListN.{length}
-use lib.Dec.{eqb, ltb}
-use Rattle.rules.specs.Maps.{_and_, Map, given, find, has, every}
-use Rattle.rules.specs.Bytes.{number, number-from, are-bytes}
-use Rattle.rules.specs.Catalogue.{Class, Catalogue, class, attribute, size-of, is-fixed, leader, key, ont-data}
+use mathlib.Core.List.{List, [], _∷_}
+use lib.Dec.{eqb}
+use Rattle.rules.specs.Maps.{_and_, given, find}
+use Rattle.rules.specs.Bytes.{number, number-from}
+use Rattle.rules.specs.Catalogue.{Catalogue, class, attribute, leader, key, ont-data}
 use Rattle.rules.specs.State.{Contents, Entry, Table, entries, entry, contents, content, counter, overwrite, with-counter}
 use Rattle.rules.specs.Legal.{fixed-contents, passes, legal-content, legal-contents, legal-entry}
 use Rattle.rules.specs.Messages.{next-number}
 use Rattle.rules.specs.Commands.{move-counter}
 use Rattle.rules.specs.WellFormed.{WellFormed}
-use Rattle.rules.proofs.Laws.{cases, never, true-false, eqb-eq, eqb-ne, every-find}
+use Rattle.rules.proofs.Laws.{cases, eqb-eq, eqb-ne, every-find}
 use Rattle.rules.proofs.MapLaws.{some-eq, none-some}
 use Rattle.rules.proofs.Lookups.{without-C}
 use Rattle.rules.proofs.ByteLaws.{bytes-cons, bytes-none, number-of-one}
 use Rattle.kept.proofs.Contents.{Value, value-test, value-of, LegalContents, open-contents, Writable, legal-overwrite}
-use Rattle.kept.proofs.Tables.{LegalEntry, open-entry, LegalTable, LegalLive, KeepsLegal, change-any}
+use Rattle.kept.proofs.Tables.{LegalEntry, open-entry, LegalTable, LegalLive, change-any}
 use Rattle.kept.proofs.Holds.{found-in}
 
 -- ---- reading from a legal table

@@ -1,23 +1,23 @@
 -- Which instances are there, before and after a change of the table.
-use Prim.Native.Nat.{ℕ, zero, suc, _+_, _*_, _/_, _%_, _≤_, _<_}
+use Prim.Native.Nat.{ℕ, _+_, _<_}
 use native.Mathlib.Omega.{arith}
 use mathlib.Core.Path.{_≡_, refl, sym, _∙_, ap}
-use mathlib.Core.Bool.{Bool, true, false, not, cond}
+use mathlib.Core.Bool.{true, false, cond}
 use mathlib.Core.Option.{Option, none, some}
 use mathlib.Core.Logic.{_≢_}
-use mathlib.Core.List.{List, [], _∷_, _++_, map}
-use lib.Dec.{eqb, ltb, leb}
-use Rattle.rules.specs.Maps.{_and_, _or_, Map, given, is-some, find, has, keys, put, keep, remove, every, each, at-key, among}
-use Rattle.rules.specs.Catalogue.{Creation, created, automatic, comes-with, Class, Catalogue, class, known, is-created, automatic-numbers, leader, lead, family, key, ont-data}
-use Rattle.rules.specs.State.{Contents, Entry, Table, class-of, number-of, entries, entry, holds, contents, change}
+use mathlib.Core.List.{List, [], _++_}
+use lib.Dec.{eqb}
+use Rattle.rules.specs.Maps.{_and_, _or_, Map, given, find, has, keys, put, remove, each, at-key, among}
+use Rattle.rules.specs.Catalogue.{Creation, created, automatic, comes-with, Catalogue, class, known, is-created, automatic-numbers, leader, lead, family, key}
+use Rattle.rules.specs.State.{Contents, Entry, Table, class-of, entries, entry, holds, contents, change}
 use Rattle.rules.specs.Legal.{legal-entry, may-be-there, there-or-gone}
-use Rattle.rules.specs.Commands.{new-entry, with-created, reset-contents, reset-table, goes-with, stays}
+use Rattle.rules.specs.Commands.{with-created, reset-contents, reset-table}
 use Rattle.rules.specs.WellFormed.{WellFormed}
-use Rattle.rules.proofs.Laws.{cases, never, true-false, not-true, both, and-true, eqb-true, eqb-false, eqb-eq, eqb-ne, lt-ltb, every-find, keys-each, find-each, find-some, has-among}
-use Rattle.rules.proofs.MapLaws.{some-eq, none-some, find-append, each-append, find-put, find-remove}
+use Rattle.rules.proofs.Laws.{cases, never, true-false, eqb-eq, lt-ltb, every-find, keys-each, find-each, has-among}
+use Rattle.rules.proofs.MapLaws.{find-append, each-append, find-put, find-remove}
 use Rattle.rules.proofs.Families.{in-family}
 use Rattle.rules.proofs.Standing.{standing, Stands, stands-by-itself, standing-not-created, key-class, key-number}
-use Rattle.kept.proofs.Tables.{LegalEntry, open-entry, LegalTable, LegalLive}
+use Rattle.kept.proofs.Tables.{LegalEntry, open-entry, LegalLive}
 
 -- an instance that is there: its entry, found and with its class
 pub record There (cat : Catalogue) (t : Table) (c i : ℕ) : Type 0 where

@@ -1,31 +1,31 @@
 -- The fresh state is legal, and every call takes a legal state to a legal state.
-use Prim.Native.Nat.{ℕ, zero, suc, _+_, _*_, _/_, _%_, _≤_, _<_}
+use Prim.Native.Nat.{ℕ, _+_, _<_}
 use native.Mathlib.Omega.{arith}
-use mathlib.Core.Path.{_≡_, refl, sym, _∙_, ap}
-use mathlib.Core.Bool.{Bool, true, false, not, cond}
+use mathlib.Core.Path.{_≡_, refl}
+use mathlib.Core.Bool.{Bool, true, false, not}
 use mathlib.Core.Option.{Option, none, some}
 use mathlib.Core.List.{List, [], _∷_, _++_}
-use lib.ListN.{length, take, drop, set, getD, length-drop}
+use lib.ListN.{length, drop, set, getD, length-drop}
 use lib.Seq.{length-take-le}
 use lib.Dec.{eqb}
-use Rattle.rules.specs.Maps.{_and_, _or_, Map, given, among, same, first-that-applies}
-use Rattle.rules.specs.Bytes.{byte, two, bytes, are-bytes}
+use Rattle.rules.specs.Maps.{_and_, _or_, given, among, same, first-that-applies}
+use Rattle.rules.specs.Bytes.{bytes, are-bytes}
 use Rattle.rules.specs.Masks.{mask}
-use Rattle.rules.specs.Catalogue.{Attribute, Class, Catalogue, class, known, attribute, size-of, is-created, key}
-use Rattle.rules.specs.State.{Table, Alarms, Memory, State, class-of, number-of, holds, contents, content, alarms-of, overwrite, change, with-table}
-use Rattle.rules.specs.Legal.{legal-content, legal-bitmaps, legal-memory, legal-state, header-drops}
-use Rattle.rules.specs.Messages.{message-number, class-in, instance-in, contents-in, message-drops, with-result, without-result, create-number, delete-number, reply-to, notification, next-number, alarm-type, avc-type, Answer, unless-refused}
+use Rattle.rules.specs.Catalogue.{Catalogue, class, known, attribute, size-of, is-created, key}
+use Rattle.rules.specs.State.{Table, Alarms, Memory, State, class-of, number-of, holds, contents, content, alarms-of, overwrite, change}
+use Rattle.rules.specs.Legal.{legal-bitmaps, legal-memory, legal-state, header-drops}
+use Rattle.rules.specs.Messages.{message-number, class-in, instance-in, contents-in, message-drops, create-number, delete-number, reply-to, next-number, alarm-type, avc-type, Answer}
 use Rattle.rules.specs.Walks.{bitmap}
-use Rattle.rules.specs.Reports.{Outcome, dropped, quiet, answered, unless-dropped, attribute-drops, report-attribute, alarm-drops, with-bitmap, turned, report-alarm}
+use Rattle.rules.specs.Reports.{Outcome, dropped, quiet, answered, attribute-drops, report-attribute, alarm-drops, turned, report-alarm}
 use Rattle.rules.specs.Run.{perform, first-results, answer, is-repeat, remember, answer-anew, answer-again, handle, Call, message, attribute-report, alarm-report, Input, taken, room-drops, step, fresh-table, fresh, run, after}
 use Rattle.rules.specs.WellFormed.{WellFormed, created-by-Create}
-use Rattle.rules.proofs.Laws.{cases, never, true-false, not-true, not-false, false-not, both, and-true, or-left, or-right, or-none, eqb-true, eqb-eq, among-here}
+use Rattle.rules.proofs.Laws.{cases, true-false, not-false, false-not, both, and-true, or-left, eqb-eq, among-here}
 use Rattle.rules.proofs.Lookups.{implied, class-says}
 use Rattle.rules.proofs.ByteLaws.{bytes-append, bytes-cons, bytes-none, bytes-take, bytes-drop, bytes-of-number, bytes-of-bits, two-small}
-use Rattle.kept.proofs.Refusals.{NoneApplies, none-applies, unless-refused-is, unless-dropped-is, first-has}
+use Rattle.kept.proofs.Refusals.{NoneApplies, unless-refused-is, unless-dropped-is, first-has}
 use Rattle.rules.proofs.Standing.{key-class, key-number}
-use Rattle.kept.proofs.Tables.{LegalLive, fresh-legal}
-use Rattle.kept.proofs.Holds.{Known, holds-known, holds-change}
+use Rattle.kept.proofs.Tables.{fresh-legal}
+use Rattle.kept.proofs.Holds.{holds-known, holds-change}
 use Rattle.kept.proofs.Counter.{next-small}
 use Rattle.kept.proofs.Written.{report-legal}
 use Rattle.kept.proofs.AlarmsKept.{Bitmap, bitmap-of, turned-bitmap, turned-legal}

@@ -1,15 +1,12 @@
 -- A legal state, part by part.
-use Prim.Native.Nat.{ℕ, zero, suc, _+_, _≤_, _<_}
-use mathlib.Core.Path.{_≡_, refl, sym, _∙_, ap}
-use mathlib.Core.Bool.{Bool, true, false, not, cond}
-use mathlib.Core.Option.{Option, none, some}
-use mathlib.Core.List.{List, [], _∷_, _++_}
-use lib.Dec.{ltb}
-use Rattle.rules.specs.Maps.{_and_, Map, given}
+use Prim.Native.Nat.{ℕ, _<_}
+use mathlib.Core.Path.{_≡_}
+use mathlib.Core.Bool.{true}
+use Rattle.rules.specs.Maps.{_and_, given}
 use Rattle.rules.specs.Bytes.{are-bytes}
 use Rattle.rules.specs.Catalogue.{Catalogue}
-use Rattle.rules.specs.State.{Table, Alarms, Memory, State, holds, with-table}
-use Rattle.rules.specs.Legal.{legal-live, legal-frozen, legal-bitmaps, legal-walk, legal-memory, legal-state}
+use Rattle.rules.specs.State.{Table, State, holds, with-table}
+use Rattle.rules.specs.Legal.{legal-frozen, legal-bitmaps, legal-walk, legal-memory, legal-state}
 use Rattle.rules.specs.Messages.{Answer}
 use Rattle.rules.specs.WellFormed.{WellFormed}
 use Rattle.rules.proofs.Laws.{both, and-true, ltb-lt, lt-ltb}

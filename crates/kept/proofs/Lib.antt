@@ -1,3 +1,4 @@
+pub mod Outcomes
 pub mod Contents
 pub mod NewContents
 pub mod ResetContents

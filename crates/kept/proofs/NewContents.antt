@@ -1,22 +1,18 @@
 -- A new instance's contents are legal: what the Create carried, and first contents.
-use Prim.Native.Nat.{ℕ, zero, suc, _+_, _≤_, _<_}
-use mathlib.Core.Path.{_≡_, refl, sym, _∙_, ap, subst}
-use mathlib.Core.Bool.{Bool, true, false, not, cond}
-use mathlib.Core.Option.{Option, none, some}
-use mathlib.Core.List.{List, [], _∷_, _++_}
-use lib.ListN.{length, replicate}
-use lib.Dec.{eqb}
-use Rattle.rules.specs.Maps.{_and_, Map, given, is-some, find, has, keys, keep, every, each, rising}
-use Rattle.rules.specs.Bytes.{are-bytes}
-use Rattle.rules.specs.Catalogue.{First, constant, copied, Source, stored, of-creator, count-of, Attribute, Class, Catalogue, class, known, attribute, supported, size-of, is-stored, stored-numbers, is-fixed, is-created, leader}
+use Prim.Native.Nat.{ℕ}
+use mathlib.Core.Path.{_≡_, refl, _∙_}
+use mathlib.Core.Bool.{true, false, cond}
+use mathlib.Core.List.{List, []}
+use Rattle.rules.specs.Maps.{_and_, keys, keep, rising}
+use Rattle.rules.specs.Catalogue.{constant, copied, Source, stored, of-creator, count-of, Attribute, Catalogue, class, known, attribute, supported, is-stored, stored-numbers, is-fixed, is-created, leader}
 use Rattle.rules.specs.State.{Contents, content}
-use Rattle.rules.specs.Legal.{fixed-contents, passes, legal-content, there-or-gone}
-use Rattle.rules.specs.Commands.{first-content, new-contents, reset-contents}
-use Rattle.rules.specs.WellFormed.{WellFormed, implies, rights-only-if-stored, C-only-if-created, attributes-rise, FirstIsLegal}
-use Rattle.rules.proofs.Laws.{cases, never, true-false, not-true, both, and-true, or-cases, or-left, or-right, keys-each, every-each, find-each, has-among}
-use Rattle.rules.proofs.MapLaws.{some-eq, none-some, rising-keep, every-if-found, found-kept, find-kept}
-use Rattle.rules.proofs.Lookups.{implied, found-class, known-class, class-says, found-attribute, known-attribute, C-supported, supported-known, attribute-says, leads-itself}
-use Rattle.kept.proofs.Contents.{Value, value-test, of-value, value-agrees, LegalContents, legal-each}
+use Rattle.rules.specs.Legal.{fixed-contents, legal-content}
+use Rattle.rules.specs.Commands.{first-content, new-contents}
+use Rattle.rules.specs.WellFormed.{WellFormed, rights-only-if-stored, C-only-if-created, attributes-rise, FirstIsLegal}
+use Rattle.rules.proofs.Laws.{cases, never, both, or-left, or-right, keys-each, every-each, find-each}
+use Rattle.rules.proofs.MapLaws.{rising-keep, every-if-found, found-kept, find-kept}
+use Rattle.rules.proofs.Lookups.{implied, class-says, found-attribute, known-attribute, C-supported, attribute-says, leads-itself}
+use Rattle.kept.proofs.Contents.{Value, value-test, of-value, value-agrees, LegalContents}
 
 -- what a Create of class d carried is legal
 abbrev pub CarriedIsLegal : Catalogue → ℕ → Contents → Type 0

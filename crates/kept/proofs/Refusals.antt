@@ -1,14 +1,14 @@
 -- What is known once no line of a list of results, or of drops, has applied.
 use Prim.Native.Nat.{ℕ}
-use mathlib.Core.Path.{_≡_, refl, sym, _∙_}
-use mathlib.Core.Bool.{Bool, true, false, not, cond}
+use mathlib.Core.Path.{_≡_, refl, sym}
+use mathlib.Core.Bool.{Bool, true, false, not}
 use mathlib.Core.Option.{Option, none, some}
 use mathlib.Core.List.{List, [], _∷_, _++_}
-use Rattle.rules.specs.Maps.{_and_, given, first-that-applies, empty, those, put-if, all, keep, keys, every, Map}
+use Rattle.rules.specs.Maps.{_and_, given, first-that-applies, empty, those, all, keep, keys, every, Map}
 use Rattle.rules.specs.State.{State}
 use Rattle.rules.specs.Messages.{Answer, unless-refused}
 use Rattle.rules.specs.Reports.{Outcome, dropped, unless-dropped}
-use Rattle.rules.proofs.Laws.{cases, never, not-true, not-false, false-not, both, and-true}
+use Rattle.rules.proofs.Laws.{cases, never, false-not, and-true}
 use Rattle.rules.proofs.MapLaws.{none-some}
 
 -- no line applies

@@ -1,24 +1,22 @@
 -- Every reply and notification is 48 bytes.
-use Prim.Native.Nat.{ℕ, zero, suc, _+_, _*_, _/_, _%_, _≤_, _<_}
+use Prim.Native.Nat.{ℕ, _+_, _<_}
 use native.Mathlib.Omega.{arith}
-use mathlib.Core.Path.{_≡_, refl, sym, _∙_, ap}
-use mathlib.Core.Bool.{Bool, true, false, not, cond}
-use mathlib.Core.Option.{Option, none, some}
+use mathlib.Core.Path.{_≡_, refl}
+use mathlib.Core.Bool.{true}
+use mathlib.Core.Option.{none}
 use mathlib.Core.List.{List, [], _∷_, _++_}
-use lib.ListN.{length, take, drop, getD, replicate, length-append, length-drop}
+use lib.ListN.{length, take, drop, length-append, length-drop}
 use lib.Seq.{length-take-le, getD-take}
-use lib.Dec.{eqb}
-use Rattle.rules.specs.Maps.{_and_, Map, given, nth, is-some, first-that-applies}
-use Rattle.rules.specs.Bytes.{byte, two, bytes, fill, are-bytes}
+use Rattle.rules.specs.Maps.{_and_, first-that-applies}
+use Rattle.rules.specs.Bytes.{byte, bytes, fill, are-bytes}
 use Rattle.rules.specs.Catalogue.{Source, stored, of-creator, count-of, Catalogue, class, attribute, leader}
-use Rattle.rules.specs.State.{Table, Memory, content, contents, read-from, read}
+use Rattle.rules.specs.State.{Table, content, contents, read-from, read}
 use Rattle.rules.specs.Legal.{header-drops, legal-memory}
-use Rattle.rules.specs.Messages.{message-number, trailer, checksum, framed, reply-to, notification, message-drops}
+use Rattle.rules.specs.Messages.{message-number, trailer, checksum, framed, reply-to, notification}
 use Rattle.rules.specs.Commands.{values}
 use Rattle.rules.specs.WellFormed.{WellFormed}
-use Rattle.rules.proofs.Laws.{cases, never, and-true, eqb-true, eqb-eq}
-use Rattle.rules.proofs.ByteLaws.{bytes-append, bytes-cons, bytes-none, bytes-take, bytes-drop, bytes-zeros, bytes-fill, length-fill, bytes-of-number, byte-small}
-use Rattle.kept.proofs.Contents.{Value}
+use Rattle.rules.proofs.Laws.{and-true, eqb-true}
+use Rattle.rules.proofs.ByteLaws.{bytes-append, bytes-cons, bytes-none, bytes-take, bytes-drop, bytes-zeros, bytes-fill, length-fill, bytes-of-number}
 use Rattle.kept.proofs.Tables.{LegalTable}
 use Rattle.kept.proofs.Counter.{stored-value}
 

@@ -1,10 +1,10 @@
 -- A reset leaves the contents of an instance that stays legal.
 use Prim.Native.Nat.{ℕ}
-use mathlib.Core.Path.{_≡_, refl, sym, _∙_}
-use mathlib.Core.Bool.{Bool, true, false, not, cond}
-use mathlib.Core.List.{List, [], _∷_}
-use Rattle.rules.specs.Maps.{_and_, _or_, each}
-use Rattle.rules.specs.Catalogue.{First, constant, copied, Source, stored, of-creator, count-of, Attribute, Class, Catalogue, class, attribute, supported, is-stored, is-fixed, is-created, leader}
+use mathlib.Core.Path.{_≡_}
+use mathlib.Core.Bool.{true, false, cond}
+use mathlib.Core.List.{[]}
+use Rattle.rules.specs.Maps.{_or_}
+use Rattle.rules.specs.Catalogue.{constant, copied, Source, stored, of-creator, count-of, Catalogue, class, attribute, supported, is-stored, is-created, leader}
 use Rattle.rules.specs.State.{Contents}
 use Rattle.rules.specs.Legal.{fixed-contents, legal-content}
 use Rattle.rules.specs.Commands.{first-content, reset-contents}

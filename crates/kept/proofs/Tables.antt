@@ -1,29 +1,28 @@
 -- What is done to a table leaves it legal.
-use Prim.Native.Nat.{ℕ, zero, suc, _+_, _*_, _/_, _%_, _≤_, _<_}
+use Prim.Native.Nat.{ℕ, suc, _≤_, _<_}
 use native.Mathlib.Omega.{arith}
-use mathlib.Core.Path.{_≡_, refl, sym, _∙_, ap}
+use mathlib.Core.Path.{_≡_, refl, _∙_, ap}
 use mathlib.Core.Bool.{Bool, true, false, not, cond}
-use mathlib.Core.Option.{Option, none, some}
-use mathlib.Core.Logic.{_≢_}
-use mathlib.Core.List.{List, [], _∷_, _++_, map}
+use mathlib.Core.Option.{some}
+use mathlib.Core.List.{List, [], _∷_, map}
 use lib.ListN.{length}
-use lib.Dec.{eqb, ltb, leb}
-use Rattle.rules.specs.Maps.{_and_, _or_, Map, given, is-some, find, has, keys, put, keep, remove, every, each, at-key, among, all, those, put-if, rising, same}
-use Rattle.rules.specs.Catalogue.{Creation, created, automatic, comes-with, Class, Catalogue, class, known, attribute, is-created, automatic-numbers, leader, lead, family, key, ont-data}
-use Rattle.rules.specs.State.{Contents, Entry, Table, class-of, number-of, change}
-use Rattle.rules.specs.Legal.{legal-contents, legal-entry, legal-table, legal-live, legal-frozen, automatic-keys}
+use lib.Dec.{eqb}
+use Rattle.rules.specs.Maps.{_and_, _or_, Map, find, keys, put, keep, remove, every, each, at-key, among, all, those, rising, same}
+use Rattle.rules.specs.Catalogue.{created, automatic, Catalogue, class, attribute, is-created, leader, family, key, ont-data}
+use Rattle.rules.specs.State.{Contents, Entry, Table, class-of, change}
+use Rattle.rules.specs.Legal.{legal-contents, legal-entry, legal-table, automatic-keys}
 use Rattle.rules.specs.Commands.{new-contents, new-entry, with-created, reset-contents, reset-table}
 use Rattle.rules.specs.Walks.{frozen}
 use Rattle.rules.specs.Run.{fresh-table}
-use Rattle.rules.specs.WellFormed.{WellFormed, leader-is-created, comes-with-a-created-one}
-use Rattle.rules.proofs.Laws.{cases, never, true-false, not-true, both, and-true, eqb-true, eqb-false, eqb-eq, eqb-ne, leb-le, le-leb, same-eq, eq-same, every-find, every-keep, every-put, every-imp, keys-each, every-each, find-each, find-some, has-among, all-among}
-use Rattle.rules.proofs.MapLaws.{some-eq, none-some, rising-put, rising-keep, length-put, length-keep, at-absent, every-if-found, every-with-keys, found-kept, find-kept}
-use Rattle.rules.proofs.Lookups.{found-class, known-class, class-says, created-known}
+use Rattle.rules.specs.WellFormed.{WellFormed}
+use Rattle.rules.proofs.Laws.{cases, true-false, both, and-true, eqb-eq, leb-le, le-leb, same-eq, eq-same, every-find, every-keep, every-put, every-imp, keys-each, every-each, has-among}
+use Rattle.rules.proofs.MapLaws.{rising-put, rising-keep, length-put, length-keep, at-absent, every-if-found, every-with-keys}
+use Rattle.rules.proofs.Lookups.{found-class}
 use Rattle.rules.proofs.Families.{family-rises, found-in-family, in-family}
 use Rattle.kept.proofs.Contents.{LegalContents, open-contents, close-contents}
 use Rattle.kept.proofs.NewContents.{CarriedIsLegal, C-is-created, legal-new}
 use Rattle.kept.proofs.ResetContents.{legal-reset}
-use Rattle.rules.proofs.Standing.{all-imp, all-self, stands, automatic-keys-stand, standing, Stands, stands-by-itself, standing-not-created, key-class}
+use Rattle.rules.proofs.Standing.{all-imp, all-self, stands, automatic-keys-stand, standing, standing-not-created, key-class}
 
 pub length-each : {A B : Type 0} (f : ℕ → A → B) (m : Map A) → length (each f m) ≡ length m
 unfolding each

@@ -1,22 +1,21 @@
 -- The bitmaps of a legal state are a legal frozen copy.
-use Prim.Native.Nat.{ℕ, zero, suc, _+_, _*_, _≤_, _<_}
+use Prim.Native.Nat.{ℕ, suc, _≤_, _<_}
 use native.Mathlib.Omega.{arith}
-use mathlib.Core.Path.{_≡_, refl, sym, _∙_, ap}
-use mathlib.Core.Bool.{Bool, true, false, not, cond}
-use mathlib.Core.Option.{Option, none, some}
-use mathlib.Core.List.{List, [], _∷_, _++_, map}
+use mathlib.Core.Path.{_≡_, refl, sym, ap}
+use mathlib.Core.Bool.{Bool, true, false, cond}
+use mathlib.Core.List.{List, [], _∷_, map}
 use lib.ListN.{length}
-use lib.Dec.{eqb, leb}
-use Rattle.rules.specs.Maps.{_and_, _or_, Map, find, keys, keep, every, among, distinct, put-if, all}
-use Rattle.rules.specs.Catalogue.{Class, Catalogue, class, known, is-created, leader, key}
-use Rattle.rules.specs.State.{Entry, Table, Alarms, class-of, number-of, holds, entries}
+use lib.Dec.{eqb}
+use Rattle.rules.specs.Maps.{_and_, _or_, Map, keys, keep, every, among, distinct, all}
+use Rattle.rules.specs.Catalogue.{Catalogue, class, known, is-created, leader, key}
+use Rattle.rules.specs.State.{Table, Alarms, class-of, number-of, holds}
 use Rattle.rules.specs.Legal.{legal-bitmaps, there-or-gone, walked-entries, legal-walk}
 use Rattle.rules.specs.WellFormed.{WellFormed}
-use Rattle.rules.proofs.Laws.{cases, never, true-false, both, and-true, or-cases, or-left, or-right, or-none, eqb-true, eqb-false, eqb-eq, le-leb, every-find, has-among}
+use Rattle.rules.proofs.Laws.{cases, never, true-false, both, and-true, or-cases, or-left, or-right, or-none, eqb-true, eqb-eq, le-leb, every-find, has-among}
 use Rattle.rules.proofs.MapLaws.{length-keys, rising-keep, every-if-found, found-kept}
 use Rattle.rules.proofs.Standing.{key-class, standing-not-created}
 use Rattle.kept.proofs.Tables.{LegalLive}
-use Rattle.kept.proofs.Holds.{There, holds-there, Known, holds-known, there-known, found-in, automatic-stands}
+use Rattle.kept.proofs.Holds.{There, holds-there, holds-known, there-known, found-in, automatic-stands}
 use Rattle.kept.proofs.AlarmsKept.{bitmap-test, still-legal}
 
 -- ---- no more different numbers than there are places for them

@@ -1,22 +1,22 @@
 -- An accepted Set, and a report of an attribute, leave the table legal.
-use Prim.Native.Nat.{ℕ, zero, suc, _+_, _≤_, _<_}
-use mathlib.Core.Path.{_≡_, refl, sym, _∙_, ap}
-use mathlib.Core.Bool.{Bool, true, false, not, cond}
-use mathlib.Core.Option.{Option, none, some}
-use mathlib.Core.List.{List, [], _∷_, _++_}
+use Prim.Native.Nat.{ℕ, _<_}
+use mathlib.Core.Path.{_≡_, refl}
+use mathlib.Core.Bool.{Bool, true, false, cond}
+use mathlib.Core.Option.{some}
+use mathlib.Core.List.{List, [], _∷_}
 use lib.ListN.{length}
 use lib.Dec.{eqb}
-use Rattle.rules.specs.Maps.{_and_, Map, given, find}
+use Rattle.rules.specs.Maps.{_and_, find}
 use Rattle.rules.specs.Bytes.{are-bytes}
-use Rattle.rules.specs.Catalogue.{Verdict, fine, bad, asks, Attribute, Class, Catalogue, class, attribute, size-of, is-fixed, is-created, leader, key, ont-data}
-use Rattle.rules.specs.State.{Contents, Entry, Table, entries, entry, contents, content, overwrite, change}
+use Rattle.rules.specs.Catalogue.{Verdict, fine, bad, asks, Catalogue, class, attribute, size-of, is-fixed, is-created, leader, key, ont-data}
+use Rattle.rules.specs.State.{Contents, Entry, Table, entry, contents, content, overwrite, change}
 use Rattle.rules.specs.Legal.{fixed-contents, passes, legal-content, there-or-gone}
 use Rattle.rules.specs.Commands.{moved-by-set}
 use Rattle.rules.specs.WellFormed.{WellFormed, asks-nothing}
-use Rattle.rules.proofs.Laws.{cases, never, true-false, eqb-eq}
+use Rattle.rules.proofs.Laws.{cases, never, eqb-eq}
 use Rattle.rules.proofs.MapLaws.{some-eq, none-some, find-append}
 use Rattle.rules.proofs.Lookups.{with-L, without-C}
-use Rattle.kept.proofs.Contents.{Value, value-agrees, Writable, legal-overwrite}
+use Rattle.kept.proofs.Contents.{value-agrees, Writable, legal-overwrite}
 use Rattle.kept.proofs.ResetContents.{nothing-carried}
 use Rattle.rules.proofs.Standing.{key-class}
 use Rattle.kept.proofs.Tables.{LegalLive, change-legal, change-any}
