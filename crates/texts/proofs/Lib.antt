@@ -1,0 +1,4 @@
+pub mod Saying
+pub mod Hexes
+pub mod Grouping
+pub mod Telling

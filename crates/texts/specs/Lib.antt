@@ -1,0 +1,4 @@
+pub mod Said
+pub mod Digits
+pub mod Tables
+pub mod Groups
