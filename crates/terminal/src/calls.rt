@@ -84,6 +84,30 @@ fn put_outcome(out: &mut [u8], at: usize, code: u8, reply: &[u8]) -> usize {
     }
 }
 
+// Has a message the first 40 bytes of the last answered command?
+fn is_again(desk: &[u8], m: &[u8]) -> bool {
+    if desk.len() < 91 {
+        return false;
+    }
+    if m.len() != 48 {
+        return false;
+    }
+    memory::is_repeat(desk, m)
+}
+
+// What a message came to; an answer to a repeat is the old one.
+fn put_result(out: &mut [u8], at: usize, again: bool, code: u8, reply: &[u8]) -> usize {
+    if again & (code == 0) {
+        let told = put(
+            out,
+            at,
+            b"\n  a repeat: it gets the old reply, and nothing changes",
+        );
+        return put_outcome(out, told, code, reply);
+    }
+    put_outcome(out, at, code, reply)
+}
+
 // A command was answered, or not: its id and the head of its answer are remembered, and a section of an upload is kept.
 fn remembered(desk: &mut [u8], code: u8, m: &[u8], reply: &[u8], run: Run) -> Run {
     let mut next = run;
@@ -111,8 +135,9 @@ pub fn exchange(desk: &mut [u8], m: &[u8], run: Run) -> Run {
     let reply: &mut [u8] = &mut space;
     let head = put_head(out, 0, run.number);
     let asked = put_asked(out, head, m);
+    let again = is_again(desk, m);
     let code = hand_message(desk, m, reply);
-    let end = put_outcome(out, asked, code, reply);
+    let end = put_result(out, asked, again, code, reply);
     say(out, end, remembered(desk, code, m, reply, run))
 }
 
