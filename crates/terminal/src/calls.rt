@@ -14,50 +14,12 @@ use words::requests::put_asked;
 use words::requests::put_raised;
 use words::requests::put_report;
 
-// An outcome as a number: 0 for an answer, 255 for nothing to send, else the drop.
-fn code_of(o: Outcome) -> u8 {
+fn is_answered(o: Outcome) -> bool {
     match o {
-        Outcome::Answered => 0,
-        Outcome::Quiet => 255,
-        Outcome::Dropped(n) => n,
+        Outcome::Answered => true,
+        Outcome::Quiet => false,
+        Outcome::Dropped(_) => false,
     }
-}
-
-fn start_code_of(o: Started) -> u8 {
-    match o {
-        Started::Fresh => 0,
-        Started::Dropped(n) => n,
-    }
-}
-
-fn hand_message(store: &mut [u8], m: &[u8], reply: &mut [u8]) -> u8 {
-    code_of(engine::handle(store, m, reply))
-}
-
-fn hand_report(
-    store: &mut [u8],
-    class: u16,
-    number: u16,
-    attribute: u8,
-    content: &[u8],
-    reply: &mut [u8],
-) -> u8 {
-    code_of(engine::report_attribute(store, class, number, attribute, content, reply))
-}
-
-fn hand_alarm(
-    store: &mut [u8],
-    class: u16,
-    number: u16,
-    alarm: u8,
-    on: bool,
-    reply: &mut [u8],
-) -> u8 {
-    code_of(engine::report_alarm(store, class, number, alarm, on, reply))
-}
-
-fn switch_on(store: &mut [u8], product: u8) -> u8 {
-    start_code_of(engine::power_on(store, product))
 }
 
 // An answer: its bytes, and its words.
@@ -76,11 +38,11 @@ fn put_dropped(out: &mut [u8], at: usize, code: u8) -> usize {
 }
 
 // What a call came to.
-fn put_outcome(out: &mut [u8], at: usize, code: u8, reply: &[u8]) -> usize {
-    match code {
-        0 => put_answer(out, at, reply),
-        255 => put(out, at, b"\n  quiet: nothing to send\n"),
-        _ => put_dropped(out, at, code),
+fn put_outcome(out: &mut [u8], at: usize, o: Outcome, reply: &[u8]) -> usize {
+    match o {
+        Outcome::Answered => put_answer(out, at, reply),
+        Outcome::Quiet => put(out, at, b"\n  quiet: nothing to send\n"),
+        Outcome::Dropped(n) => put_dropped(out, at, n),
     }
 }
 
@@ -96,23 +58,23 @@ fn is_again(desk: &[u8], m: &[u8]) -> bool {
 }
 
 // What a message came to; an answer to a repeat is the old one.
-fn put_result(out: &mut [u8], at: usize, again: bool, code: u8, reply: &[u8]) -> usize {
-    if again & (code == 0) {
+fn put_result(out: &mut [u8], at: usize, again: bool, o: Outcome, reply: &[u8]) -> usize {
+    if again & is_answered(o) {
         let told = put(
             out,
             at,
             b"\n  a repeat: it gets the old reply, and nothing changes",
         );
-        return put_outcome(out, told, code, reply);
+        return put_outcome(out, told, o, reply);
     }
-    put_outcome(out, at, code, reply)
+    put_outcome(out, at, o, reply)
 }
 
 // A command was answered, or not: its id and the head of its answer are remembered, and a section of an upload is kept.
-fn remembered(desk: &mut [u8], code: u8, m: &[u8], reply: &[u8], run: Run) -> Run {
+fn remembered(desk: &mut [u8], o: Outcome, m: &[u8], reply: &[u8], run: Run) -> Run {
     let mut next = run;
     next.count = number_at(reply, 8);
-    if code == 0 {
+    if is_answered(o) {
         next.last = number_at(m, 0);
     }
     next.kept = keep(desk, run.kept, reply);
@@ -136,9 +98,9 @@ pub fn exchange(desk: &mut [u8], m: &[u8], run: Run) -> Run {
     let head = put_head(out, 0, run.number);
     let asked = put_asked(out, head, m);
     let again = is_again(desk, m);
-    let code = hand_message(desk, m, reply);
-    let end = put_result(out, asked, again, code, reply);
-    say(out, end, remembered(desk, code, m, reply, run))
+    let o = engine::handle(desk, m, reply);
+    let end = put_result(out, asked, again, o, reply);
+    say(out, end, remembered(desk, o, m, reply, run))
 }
 
 // A local report of an attribute.
@@ -156,8 +118,8 @@ pub fn report(
     let reply: &mut [u8] = &mut space;
     let head = put_head(out, 0, run.number);
     let asked = put_report(out, head, class, number, attribute, content);
-    let code = hand_report(desk, class, number, attribute, content, reply);
-    let end = put_outcome(out, asked, code, reply);
+    let o = engine::report_attribute(desk, class, number, attribute, content, reply);
+    let end = put_outcome(out, asked, o, reply);
     say(out, end, run)
 }
 
@@ -169,18 +131,22 @@ pub fn alarm(desk: &mut [u8], class: u16, number: u16, alarm: u8, on: bool, run:
     let reply: &mut [u8] = &mut space;
     let head = put_head(out, 0, run.number);
     let asked = put_raised(out, head, class, number, alarm, on);
-    let code = hand_alarm(desk, class, number, alarm, on, reply);
-    let end = put_outcome(out, asked, code, reply);
+    let o = engine::report_alarm(desk, class, number, alarm, on, reply);
+    let end = put_outcome(out, asked, o, reply);
     say(out, end, run)
 }
 
-fn put_power(out: &mut [u8], at: usize, product: u8, code: u8) -> usize {
-    if code != 0 {
-        return put_dropped(out, at, code);
-    }
+fn put_fresh(out: &mut [u8], at: usize, product: u8) -> usize {
     match product {
         1 => put(out, at, b"power small\n  fresh: the small product is on\n"),
         _ => put(out, at, b"power large\n  fresh: the large product is on\n"),
+    }
+}
+
+fn put_power(out: &mut [u8], at: usize, product: u8, o: Started) -> usize {
+    match o {
+        Started::Fresh => put_fresh(out, at, product),
+        Started::Dropped(n) => put_dropped(out, at, n),
     }
 }
 
@@ -189,7 +155,7 @@ pub fn power(desk: &mut [u8], product: u8, run: Run) -> Run {
     let mut page = [0u8; 256];
     let out: &mut [u8] = &mut page;
     let head = put_head(out, 0, run.number);
-    let code = switch_on(desk, product);
-    let end = put_power(out, head, product, code);
+    let o = engine::power_on(desk, product);
+    let end = put_power(out, head, product, o);
     say(out, end, run)
 }
