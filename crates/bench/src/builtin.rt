@@ -1,9 +1,10 @@
 // The run that is played where no input came: a bridge is built, the link drops during an upload, and the upload stays whole.
-use terminal::lines::take_chunk;
-use terminal::printing::say_text;
-use terminal::run;
-use terminal::run::Run;
-use words::reads::part;
+use bench_terminal::lines::take_chunk;
+use bench_terminal::printing::say_text;
+use bench_terminal::run;
+use bench_terminal::run::Run;
+use bench_words::reads::part;
+use store::layout::STORE;
 
 // The script in its parts: before the link drops, the drop, the rest of the upload, and a Get behind it.
 pub fn play(line: &mut [u8], desk: &mut [u8], run: Run) -> Run {
@@ -69,7 +70,7 @@ fn is_whole(before: &[u8], after: &[u8], line: &mut [u8], kept: &[u8]) -> bool {
     let desk: &mut [u8] = &mut space;
     let half = take_chunk(before, line, desk, run::silent());
     let whole = take_chunk(after, line, desk, half);
-    (kept.len() == 6 * 48) & octets::same_bytes(part(desk, run::DESK, whole.kept), kept)
+    (kept.len() == 6 * 48) & octets::same_bytes(part(desk, STORE, whole.kept), kept)
 }
 
 // What the comparison came to.
@@ -103,7 +104,7 @@ fn play_parts(
     let whole = play_upload(before, meanwhile, after, line, desk, shown);
     let last = take_chunk(fresh, line, desk, whole);
     tell(
-        is_whole(before, after, line, part(desk, run::DESK, whole.kept)),
+        is_whole(before, after, line, part(desk, STORE, whole.kept)),
         last,
     )
 }

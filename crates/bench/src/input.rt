@@ -1,7 +1,7 @@
 // Standard input, from its first byte to its last.
+use bench_terminal::lines::take_chunk;
+use bench_terminal::run::Run;
 use libc::STDIN_FILENO;
-use terminal::lines::take_chunk;
-use terminal::run::Run;
 
 // What one read brought.
 struct Came {

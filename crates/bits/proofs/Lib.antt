@@ -1,3 +1,4 @@
 pub mod Masks
-pub mod Every
+pub mod Turned
 pub mod Bytes
+pub mod MaskWalk

@@ -13,9 +13,9 @@ use lib.Count.{ones, ones-cat, leadingZeros, leading-top}
 use Rattle.rules.specs.Maps.{_and_, _or_, rising, among, all, empty, those}
 use Rattle.rules.specs.Masks.{attribute-numbers, in-mask, named, mask}
 use Rattle.bits.specs.Firsts.{First}
-use Rattle.rules.proofs.Laws.{cases, both, eqb-eq, eqb-true, eqb-false, ltb-lt, ltb-le, leb-le, same?, or-cases, never}
-use Rattle.rules.proofs.MapLaws.{Up, rising-up, up-rising}
-use Rattle.bits.proofs.Every.{each-below, below}
+use Rattle.rules.proofs.Laws.{cases, both, eqb-eq, eqb-false, ltb-lt, ltb-le, leb-le, same?, or-cases, never}
+use Rattle.rules.proofs.MapLaws.{Up, rising-up, up-rising, among-those}
+use Rattle.rules.proofs.Computed.{all-below, below}
 
 -- ---- lists of numbers that rise from a bound to sixteen
 
@@ -156,6 +156,12 @@ mask-named m h = last-mask 16 m (omega arith) ∙ omega arith
 pub named-mask : (l : List ℕ) → Within 1 l → named (mask l) ≡ l
 named-mask l w = mask-same 1 1 (named (mask l)) l (named-within (mask l)) w (mask-named (mask l) (mask-small l w))
 
+-- a mask is 0 exactly if it is that of no attribute
+pub none-in : (l : List ℕ) {r : ℕ} → r ≡ mask l → empty l ≡ eqb r 0
+unfolding mask
+none-in [] e = rw e refl
+none-in (n ∷ l) {r} e = sym (eqb-false r 0 (omega (arith, pow-pos (16 - n))))
+
 pub named-none : named 0 ≡ []
 named-none = unfold named those in refl
 
@@ -170,22 +176,13 @@ empty-named m h = same? m 0
 
 -- ---- a list's mask, bit by bit
 
-among-those : (p : ℕ → Bool) (n : ℕ) (l : List ℕ) → among n (those p l) ≡ (p n && among n l)
-unfolding among those _or_
-among-those p n [] = cases (p n) (λ e. rw e) (λ e. rw e)
-among-those p n (x ∷ l) = same? n x
-    (λ e. cases (p x)
-    (λ t. let u : p n ≡ true = rw e t in rw (t, u, eqb-true n x e))
-    (λ t. let u : p n ≡ false = rw e t in rw (t, among-those p n l, u)))
-    (λ e. cases (p x) (λ t. rw (t, eqb-false n x e) (among-those p n l)) (λ t. rw (t, eqb-false n x e) (among-those p n l)))
-
 pub numbers-among : (n : ℕ) → 1 ≤ n → n ≤ 16 → among n attribute-numbers ≡ true
-numbers-among n h i = or-cases (below (λ k. eqb k 0 or among k attribute-numbers) 17 (unfold each-below among _or_ _and_ in refl) n (omega arith))
+numbers-among n h i = or-cases (below (λ k. eqb k 0 or among k attribute-numbers) 17 (unfold all-below among _or_ _and_ in refl) n (omega arith))
     (λ e. absurd (let z = eqb-eq n 0 e in omega arith))
     (λ e. e)
 
 pub in-mask-of : (l : List ℕ) → Within 1 l → (n : ℕ) → 1 ≤ n → n ≤ 16 → in-mask (mask l) n ≡ among n l
-unfolding named
+unfolding named _and_
 in-mask-of l w n h i =
     let e : (in-mask (mask l) n && among n attribute-numbers) ≡ among n l =
     sym (among-those (in-mask (mask l)) n attribute-numbers) ∙ ap (among n) (named-mask l w) in

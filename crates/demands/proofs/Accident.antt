@@ -10,21 +10,23 @@ use lib.Dec.{eqb}
 use Rattle.rules.specs.Maps.{_and_, _or_, given, nth}
 use Rattle.rules.specs.Bytes.{two}
 use Rattle.rules.specs.Catalogue.{Catalogue, class, key, ont-data}
-use Rattle.rules.specs.State.{Memory, State, holds, alarms-of, with-table}
+use Rattle.rules.specs.State.{Memory, State, holds, alarms-of}
 use Rattle.rules.specs.Messages.{message-number, class-in, instance-in, contents-in, message-drops, all-alarms-number, upload-number, reset-number, Answer}
-use Rattle.rules.specs.Commands.{create-results, create, without, delete-results, delete, bad-in-set, set-results, set, get-results, get, reset}
+use Rattle.rules.specs.Commands.{create-results, create, without, delete-results, delete, bad-in-set, set-results, set, get-results, get}
 use Rattle.rules.specs.Walks.{if-ont-data, sections, section-contents, frozen, upload, upload-next, all-alarms, alarms-contents, alarms-next}
 use Rattle.rules.specs.Reports.{attribute-drops, report-attribute, alarm-drops, turned, report-alarm}
-use Rattle.rules.specs.Run.{perform, first-results, answer, is-repeat, remember, answer-anew, answer-again, handle, Call, message, attribute-report, alarm-report, Input, taken, room-drops, step, after}
-use Rattle.rules.proofs.Laws.{cases, true-false, both, and-true}
-use Rattle.kept.proofs.Refusals.{unless-refused-is, unless-dropped-is, first-has}
+use Rattle.rules.specs.Run.{perform, first-results, answer, is-repeat, remember, answer-anew, answer-again, handle, Call, message, attribute-report, alarm-report, Input, taken}
+use Rattle.rules.specs.Run.{room-drops, step, after}
+use Rattle.rules.proofs.Laws.{cases, true-false, and-true}
+use Rattle.legality.proofs.Refusals.{unless-refused-is, unless-dropped-is}
+use Rattle.rules.proofs.MapLaws.{first-has}
 
 -- ---- one report
 
 -- an attribute report keeps the frozen copies of both walks
 pub an-attribute-report-keeps-both-walks : (cat : Catalogue) (s : State) (c i n : ℕ) (v : List ℕ)
     → (report-attribute cat s c i n v .0 .upload ≡ s .upload) × (report-attribute cat s c i n v .0 .walk ≡ s .walk)
-unfolding report-attribute with-table
+unfolding report-attribute
 an-attribute-report-keeps-both-walks cat s c i n v = unless-dropped-is (λ r. (r .0 .upload ≡ s .upload) × (r .0 .walk ≡ s .walk)) s (attribute-drops cat s c i n v) _
     (λ n e. (refl, refl))
     (λ clear. (refl, refl))
@@ -102,7 +104,7 @@ module _ (cat : Catalogue) (s : State) (c i : ℕ) (v : List ℕ) where
   KeepsBoth a = (a .0 .upload ≡ s .upload) × (a .0 .walk ≡ s .walk)
 
   create-keeps : KeepsBoth (create cat s c i v)
-  unfolding create with-table
+  unfolding create
   create-keeps = unless-refused-is KeepsBoth s (create-results cat s c i v) _ (λ r e. (refl, refl)) (λ clear. (refl, refl))
 
   delete-keeps : KeepsBoth (delete cat s c i)
@@ -110,7 +112,7 @@ module _ (cat : Catalogue) (s : State) (c i : ℕ) (v : List ℕ) where
   delete-keeps = unless-refused-is KeepsBoth s (delete-results cat s c i) _ (λ r e. (refl, refl)) (λ clear. (refl, refl))
 
   set-keeps : KeepsBoth (set cat s c i v)
-  unfolding set with-table
+  unfolding set
   set-keeps = unless-refused-is KeepsBoth s (set-results (holds cat (s .table) c i) (class cat c) (two v 0) (bad-in-set cat s c i v)) _ (λ r e. (refl, refl)) (λ clear. (refl, refl))
 
   get-keeps : KeepsBoth (get cat s c i v)

@@ -20,8 +20,9 @@ use Rattle.rules.proofs.Laws.{cases, ltb-lt, ltb-le}
 use Rattle.store.specs.Decode.{Held, decode}
 use Rattle.store.specs.Entries.{enter}
 use Rattle.store.specs.Fitting.{AllFit}
-use Rattle.kept.proofs.Kept.{OfBytes}
-use Rattle.demands.proofs.DemandOne.{Lent, store-after, RunOfBytes, drop-1-if-the-buffer-is-short, a-drop-changes-nothing, the-outcome-is-the-rules, the-store-holds-what-the-rules-leave}
+use Rattle.legality.proofs.Kept.{OfBytes}
+use Rattle.demands.proofs.DemandOne.{Lent, store-after, RunOfBytes, drop-1-if-the-buffer-is-short, a-drop-changes-nothing, the-outcome-is-the-rules}
+use Rattle.demands.proofs.DemandOne.{the-store-holds-what-the-rules-leave}
 use Rattle.demands.proofs.Accident.{LeavesUploads, LeavesAlarmWalks, a-call-keeps-the-upload, a-call-keeps-the-alarm-walk}
 
 -- ---- an upload and an Upload Next that pass the drops and are no repeats

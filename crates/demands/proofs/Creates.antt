@@ -8,49 +8,34 @@ use mathlib.Core.Logic.{_≢_}
 use mathlib.Core.List.{List, [], _∷_, _++_}
 use lib.ListN.{length, replicate}
 use lib.Dec.{eqb}
-use Rattle.rules.specs.Maps.{_and_, _or_, Map, given, find, has, keys, keep, put, remove, each, at-key, among, gather, all, first-that-applies}
+use Rattle.rules.specs.Maps.{_and_, _or_, Map, given, find, has, keys, keep, put, remove, at-key, among, gather, all, first-that-applies}
 use Rattle.rules.specs.Bytes.{byte, two, bytes, number, number-from}
-use Rattle.rules.specs.Catalogue.{stored, Class, Catalogue, class, known, attribute, family, is-stored, is-created, leader, key, ont-data}
-use Rattle.rules.specs.State.{Alarms, alarms-of, class-of, number-of, Contents, Entry, Table, State, entries, entry, holds, contents, content, read, counter, overwrite, change, with-counter, with-table}
+use Rattle.rules.specs.Catalogue.{Class, Catalogue, class, known, attribute, family, is-stored, is-created, leader, key, ont-data}
+use Rattle.rules.specs.State.{Alarms, alarms-of, class-of, number-of, Contents, Entry, Table, State, entries, entry, holds, contents, content, read, counter, overwrite, change}
+use Rattle.rules.specs.State.{with-counter, with-table}
 use Rattle.rules.specs.Legal.{legal-bitmap, legal-bitmaps, legal-state}
 use Rattle.rules.specs.Messages.{message-number, class-in, instance-in, contents-in, message-drops, create-number, delete-number, reply-to, next-number, with-result, Answer}
 use Rattle.rules.specs.Reports.{Outcome, answered}
 use Rattle.rules.specs.Run.{perform, first-results, answer, remember, answer-anew, handle}
-use Rattle.rules.specs.Commands.{move-counter, first-content, new-contents, new-entry, carried-by, create-results, with-created, create, goes-with, without, delete-results, delete, asked, get}
+use Rattle.rules.specs.Commands.{move-counter, first-content, new-contents, new-entry, carried-by, create-results, with-created, create, goes-with, without, delete-results}
+use Rattle.rules.specs.Commands.{delete, asked, get}
 use Rattle.rules.specs.WellFormed.{WellFormed, created-by-Create}
 use Rattle.rules.proofs.Laws.{cases, true-false, both, not-false, false-not, and-true, or-left, or-right, eqb-true, eqb-false, eqb-eq, eqb-ne, find-each, every-find, has-among}
-use Rattle.rules.proofs.MapLaws.{find-append, find-put, find-remove, find-kept}
+use Rattle.rules.proofs.MapLaws.{find-append, find-put, find-remove, find-kept, find-keep, find-lost, first-has}
 use Rattle.rules.proofs.Lookups.{implied, known-class, known-attribute, C-supported, created-known, class-says, leads-itself}
 use Rattle.rules.proofs.Families.{family-has}
 use Rattle.rules.proofs.Standing.{key-class, key-number}
-use Rattle.kept.proofs.Refusals.{NoneApplies, none-applies, unless-refused-is, first-has}
-use Rattle.kept.proofs.LegalStates.{LegalState, open-state, close-state}
-use Rattle.kept.proofs.Tables.{LegalEntry, LegalLive}
-use Rattle.kept.proofs.Holds.{There, holds-there, there-holds, entry-legal, has-each, created-alone}
-use Rattle.kept.proofs.NewContents.{C-is-stored}
-use Rattle.kept.proofs.CommandsKept.{delete-good}
-use Rattle.kept.proofs.Outcomes.{sent}
+use Rattle.legality.proofs.Refusals.{NoneApplies, none-applies, unless-refused-is}
+use Rattle.legality.proofs.LegalStates.{LegalState, open-state, close-state}
+use Rattle.legality.proofs.Tables.{LegalEntry, LegalLive}
+use Rattle.legality.proofs.Holds.{There, holds-there, there-holds, entry-legal, has-each, created-alone}
+use Rattle.legality.proofs.NewContents.{C-is-stored}
+use Rattle.legality.proofs.CommandsKept.{delete-good}
+use Rattle.legality.proofs.Outcomes.{sent}
 use Rattle.demands.proofs.Gets.{read-stored, values-are, an-accepted-get-replies-what-it-names}
-use Rattle.kept.proofs.ReplyBytes.{the-result-is-byte-8}
+use Rattle.legality.proofs.ReplyBytes.{the-result-is-byte-8}
 use Rattle.demands.proofs.AccidentOnBytes.{IsNoRepeat, answered-anew}
 use Rattle.demands.proofs.Sets.{changed-entries, others-stay, named-change, number-one, counter-is-there}
-
--- ---- what is kept
-
-module _ {A : Type 0} (p : ℕ → Bool) where
-  pub find-keep : (k : ℕ) (m : Map A) → p k ≡ true → find k (keep (λ j a. p j) m) ≡ find k m
-  unfolding find keep
-  find-keep k [] h = refl
-  find-keep k (x ∷ m) h = cases (eqb k (x .0))
-      (λ u. let q : p (x .0) ≡ true = ap p (sym (eqb-eq k (x .0) u)) ∙ h in rw (q, u) refl)
-      (λ u. cases (p (x .0)) (λ q. rw (q, u) (find-keep k m h)) (λ q. rw (q, u) (find-keep k m h)))
-
-  pub find-lost : (k : ℕ) (m : Map A) → p k ≡ false → find k (keep (λ j a. p j) m) ≡ none
-  unfolding find keep
-  find-lost k [] h = refl
-  find-lost k (x ∷ m) h = cases (p (x .0))
-      (λ q. rw (q, eqb-false k (x .0) (λ z. true-false q (ap p (sym z) ∙ h))) (find-lost k m h))
-      (λ q. rw q (find-lost k m h))
 
 -- what an entry says of an instance
 abbrev pub in-entry : ℕ → Entry → Contents
@@ -179,7 +164,6 @@ module _ (cat : Catalogue) (s : State) (c i : ℕ) (v : List ℕ) where
       (λ clear y. (clear, refl))
 
   created-table-is : CreateAccepted → table-after-create ≡ move-counter cat with-new
-  unfolding with-table
   created-table-is h = ap (λ (a : Answer). a .0 .table) (create-accepted-is h .1)
 
 -- In a legal state of any well-formed catalogue, for a class that can be created and a number of two bytes:
@@ -279,7 +263,6 @@ module _ (cat : Catalogue) (wf : WellFormed cat) (s : State) (legal : legal-stat
   -- An accepted Create leaves every alarm, the alarm number and both walks as they were.
   pub a-create-leaves-alarms-and-walks : (create cat s c i v .0 .alarms ≡ s .alarms) × (create cat s c i v .0 .alarm-number ≡ s .alarm-number)
       × (create cat s c i v .0 .upload ≡ s .upload) × (create cat s c i v .0 .walk ≡ s .walk)
-  unfolding with-table
   a-create-leaves-alarms-and-walks =
       let e = create-accepted-is cat s c i v yes .1 in (
         ap (λ (a : Answer). a .0 .alarms) e,
@@ -417,7 +400,8 @@ module _ (cat : Catalogue) (wf : WellFormed cat) (s : State) (legal : legal-stat
       ap (λ (a : Answer). alarms-of (key d j) (a .0 .alarms)) (delete-accepted-is cat s c i yes .1)
       ∙ ap (λ (o : Option Alarms). given o (replicate 224 false) (λ b. b)) (find-keep (λ j. not (eqb (leader cat (class-of j)) c and eqb (number-of j) i)) (key d j) (s .alarms)
       (cases (eqb (leader cat (class-of (key d j))) c and eqb (number-of (key d j)) i)
-      (λ y. absurd (other (ap (leader cat) (sym (key-class d j small-too)) ∙ eqb-eq (leader cat (class-of (key d j))) c (both y .0)) (sym (key-number d j small-too) ∙ eqb-eq (number-of (key d j)) i (both y .1))))
+      (λ y. absurd (other (ap (leader cat) (sym (key-class d j small-too)) ∙ eqb-eq (leader cat (class-of (key d j))) c (both y .0))
+      (sym (key-number d j small-too) ∙ eqb-eq (number-of (key d j)) i (both y .1))))
       (λ y. false-not y)))
 
   -- An accepted Delete moves the sync counter on.

@@ -11,7 +11,7 @@ use lib.ListN.{length, take, drop, getD}
 use lib.Seq.{drop-at}
 use lib.Dec.{eqb, ltb}
 use Rattle.rules.specs.Maps.{_and_, _or_, given, find, among, same, is-some, first-that-applies}
-use Rattle.rules.specs.Bytes.{byte, two, bytes}
+use Rattle.rules.specs.Bytes.{byte, two}
 use Rattle.rules.specs.Catalogue.{Catalogue, class, attribute, key}
 use Rattle.rules.specs.State.{Memory, State, holds, contents, content, alarms-of}
 use Rattle.rules.specs.Legal.{legal-content, legal-state, header-drops}
@@ -20,17 +20,16 @@ use Rattle.rules.specs.Reports.{Outcome, dropped, quiet, answered, unless-dropp
 use Rattle.rules.specs.Run.{is-repeat, answer-anew, answer-again, handle, Call, message, attribute-report, alarm-report, store-length, reply-length, taken, fresh}
 use Rattle.rules.specs.Products.{Products, built-products}
 use Rattle.rules.proofs.Laws.{cases, never, true-false, ltb-lt, ltb-le, lt-ltb, le-ltb}
-use Rattle.rules.proofs.MapLaws.{some-eq, none-some}
+use Rattle.rules.proofs.MapLaws.{some-eq, none-some, first-has}
 use Rattle.store.specs.Layout.{encode}
 use Rattle.store.specs.Decode.{Held, decode, sound}
 use Rattle.store.specs.Entries.{Left, written, leave, refuse, enter, power-on}
 use Rattle.store.specs.Fitting.{AllFit}
 use Rattle.store.proofs.Built.{built-products-fit}
 use Rattle.store.proofs.Soundness.{sound-is-an-encoding, legal-length, decode-of-held, decode-of-written, length-written}
-use Rattle.kept.proofs.Outcomes.{drop-of, sent}
-use Rattle.kept.proofs.Refusals.{first-has}
-use Rattle.kept.proofs.LegalStates.{open-state, close-state}
-use Rattle.kept.proofs.Kept.{OfBytes, SentIsAMessage, taken-fine, the-fresh-state-is-legal}
+use Rattle.legality.proofs.Outcomes.{drop-of, sent}
+use Rattle.legality.proofs.LegalStates.{open-state, close-state}
+use Rattle.legality.proofs.Kept.{OfBytes, SentIsAMessage, taken-fine, the-fresh-state-is-legal}
 
 -- ---- which drop
 

@@ -14,13 +14,13 @@ use Rattle.rules.specs.Run.{Input, store-length, step, fresh, run, after}
 use Rattle.rules.specs.Products.{Products, Small, Large, built-products}
 use Rattle.rules.specs.Extends.{Extends}
 use Rattle.rules.proofs.MapLaws.{none-some}
-use Rattle.catalogues.proofs.Extends.{large-extends-small}
+use Rattle.products.proofs.Extends.{large-extends-small}
 use Rattle.store.specs.Decode.{decode}
 use Rattle.store.specs.Entries.{power-on}
 use Rattle.store.specs.Fitting.{AllFit}
 use Rattle.store.proofs.Built.{built-products-fit}
-use Rattle.kept.proofs.LegalStates.{open-state}
-use Rattle.kept.proofs.Kept.{AllOfBytes, the-fresh-state-is-legal, every-run-keeps-the-state-legal}
+use Rattle.legality.proofs.LegalStates.{open-state}
+use Rattle.legality.proofs.Kept.{AllOfBytes, the-fresh-state-is-legal, every-run-keeps-the-state-legal}
 use Rattle.extending.specs.Promise.{within-the-promise, stands-in, SameUploads, SameRun, SameOutcomes}
 use Rattle.extending.proofs.Runs.{an-extension-has-the-same-run}
 use Rattle.demands.proofs.Fetched.{Fetched, each-attribute-is-fetched-from-the-second}

@@ -11,9 +11,9 @@ use Rattle.rules.specs.Run.{Input, attribute-report, alarm-report, fresh, run}
 use Rattle.rules.specs.Products.{Small, Large}
 use Rattle.rules.proofs.Laws.{_&_}
 use Rattle.rules.proofs.Examples.{call, command, bridge, sent, shown, computing}
-use Rattle.catalogues.proofs.WellFormed.{small-is-well-formed, large-is-well-formed}
-use Rattle.catalogues.proofs.Extends.{large-extends-small}
-use Rattle.kept.proofs.Kept.{AllOfBytes}
+use Rattle.products.proofs.WellFormed.{small-is-well-formed, large-is-well-formed}
+use Rattle.products.proofs.Extends.{large-extends-small}
+use Rattle.legality.proofs.Kept.{AllOfBytes}
 use Rattle.extending.specs.Promise.{within-the-promise, SameRun, computing-promise}
 use Rattle.extending.proofs.Runs.{an-extension-has-the-same-run}
 

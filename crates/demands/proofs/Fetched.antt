@@ -6,8 +6,8 @@ use mathlib.Core.Bool.{true}
 use mathlib.Core.Option.{some}
 use mathlib.Core.List.{List, [], _∷_, _++_, append-assoc}
 use lib.ListN.{length}
-use Rattle.rules.specs.Maps.{_and_, _or_, among, nth}
-use Rattle.rules.specs.Bytes.{two, bytes}
+use Rattle.rules.specs.Maps.{_and_, among, nth}
+use Rattle.rules.specs.Bytes.{bytes}
 use Rattle.rules.specs.Catalogue.{Catalogue}
 use Rattle.rules.specs.State.{Table, State, read}
 use Rattle.rules.specs.Legal.{legal-frozen}
@@ -16,6 +16,7 @@ use Rattle.rules.specs.WellFormed.{WellFormed}
 use Rattle.rules.specs.Walks.{Section, sections, section-contents, if-ont-data, upload-next}
 use Rattle.rules.proofs.Laws.{never, both, or-cases, eqb-eq}
 use Rattle.extending.specs.Promise.{stands-in, SameUploads}
+use Rattle.rules.proofs.ByteLaws.{two-of-bytes}
 
 -- where an attribute stands in sections, one of them shows it
 pub record InOne (l : List Section) (c i n : ℕ) : Type 0 where
@@ -42,10 +43,6 @@ in-one (p ∷ l) c i n h = or-cases h
     })
     (λ x. let r = in-one l c i n x in let z = r .in-range in
     record { index = suc (r .index); its-section = r .its-section; found = r .found; in-range = omega arith; its-class = r .its-class; its-instance = r .its-instance; shows-it = r .shows-it })
-
-two-of-bytes : (n : ℕ) → n ≤ 65535 → two (bytes 2 n) 0 ≡ n
-unfolding bytes
-two-of-bytes n h = omega arith
 
 -- Some Upload Next below the count answers with a section of this instance that names the attribute.
 pub record Fetched (cat : Catalogue) (s : State) (t : Table) (c i n : ℕ) : Type 0 where

@@ -5,7 +5,7 @@ use mathlib.Core.Path.{_≡_, refl, _∙_, ap}
 use mathlib.Core.Bool.{Bool, true}
 use mathlib.Core.Logic.{_≢_}
 use mathlib.Core.List.{List, [], _∷_, _++_}
-use Rattle.rules.specs.Maps.{_or_, gather, all, among}
+use Rattle.rules.specs.Maps.{gather, all, among}
 use Rattle.rules.specs.Bytes.{byte, two, bytes}
 use Rattle.rules.specs.Catalogue.{Source, stored, of-creator, count-of, Catalogue, class, attribute, is-stored}
 use Rattle.rules.specs.State.{Table, State, holds, contents, content, read-from, read}
@@ -14,8 +14,9 @@ use Rattle.rules.specs.Commands.{asked, set-by, set, values, get-results, get}
 use Rattle.rules.specs.WellFormed.{WellFormed, rights-only-if-stored}
 use Rattle.rules.proofs.Laws.{never, both, or-left}
 use Rattle.rules.proofs.Lookups.{implied, W-supported, attribute-says}
-use Rattle.kept.proofs.Refusals.{unless-refused-is, first-has}
+use Rattle.legality.proofs.Refusals.{unless-refused-is}
 use Rattle.demands.proofs.Sets.{Accepted, table-after, what-an-accepted-set-names-can-be-written, an-accepted-set-stores-what-it-names}
+use Rattle.rules.proofs.MapLaws.{first-has}
 
 -- a stored attribute is read from its instance's contents
 pub read-stored : (cat : Catalogue) (t : Table) (c i n : ℕ) → is-stored (attribute (class cat c) n .source) ≡ true → read cat t c i n ≡ content n (contents cat t c i)

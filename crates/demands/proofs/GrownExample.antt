@@ -7,8 +7,8 @@ use Rattle.rules.specs.Bytes.{byte}
 use Rattle.rules.specs.Run.{Input, attribute-report, alarm-report, fresh, run}
 use Rattle.rules.proofs.Laws.{_&_}
 use Rattle.rules.proofs.Examples.{call, command, tell, computing}
-use Rattle.catalogues.proofs.Grown.{Young, Grown, young-is-well-formed, grown-is-well-formed, grown-extends-young, computing-grown}
-use Rattle.kept.proofs.Kept.{AllOfBytes}
+use Rattle.products.proofs.Grown.{Young, Grown, young-is-well-formed, grown-is-well-formed, grown-extends-young, computing-grown}
+use Rattle.legality.proofs.Kept.{AllOfBytes}
 use Rattle.extending.specs.Promise.{within-the-promise, SameRun, computing-promise}
 use Rattle.extending.proofs.Runs.{an-extension-has-the-same-run}
 use Rattle.demands.proofs.DemandThreeExample.{told}

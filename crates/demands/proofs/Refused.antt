@@ -7,10 +7,10 @@ use mathlib.Core.Option.{Option, none, some}
 use mathlib.Core.Logic.{_≢_}
 use mathlib.Core.List.{List, []}
 use lib.ListN.{length}
-use Rattle.rules.specs.Maps.{_and_, _or_, given, among, same}
+use Rattle.rules.specs.Maps.{given, among}
 use Rattle.rules.specs.Bytes.{byte, two, are-bytes}
 use Rattle.rules.specs.Catalogue.{Catalogue, class}
-use Rattle.rules.specs.State.{Memory, State, holds, counter}
+use Rattle.rules.specs.State.{Memory, State, holds}
 use Rattle.rules.specs.Messages.{message-number, class-in, instance-in, contents-in, message-drops, without-result, reply-to, Answer}
 use Rattle.rules.specs.Commands.{create-results, create, delete-results, delete, bad-in-set, set-results, set, get-results, get, reset-results, reset}
 use Rattle.rules.specs.Reports.{answered}
@@ -20,10 +20,11 @@ use Rattle.rules.proofs.Laws.{cases, true-false, not-false, eqb-eq, or-none}
 use Rattle.store.specs.Decode.{Held, decode}
 use Rattle.store.specs.Entries.{enter}
 use Rattle.store.specs.Fitting.{AllFit}
-use Rattle.kept.proofs.Refusals.{unless-refused-is, unless-dropped-is, first-has}
-use Rattle.kept.proofs.ReplyBytes.{the-result-is-byte-8}
-use Rattle.kept.proofs.Outcomes.{sent}
+use Rattle.legality.proofs.Refusals.{unless-refused-is, unless-dropped-is}
+use Rattle.legality.proofs.ReplyBytes.{the-result-is-byte-8}
+use Rattle.legality.proofs.Outcomes.{sent}
 use Rattle.demands.proofs.DemandOne.{the-outcome-is-the-rules, the-store-holds-what-the-rules-leave}
+use Rattle.rules.proofs.MapLaws.{first-has}
 
 -- ---- commands
 
@@ -45,7 +46,8 @@ module _ (cat : Catalogue) (s : State) (c i : ℕ) (v : List ℕ) where
   -- a refused Set
   pub a-refused-set-changes-nothing : Refused (set cat s c i v) → set cat s c i v .0 ≡ s
   unfolding set
-  a-refused-set-changes-nothing = unless-refused-is (λ a. Refused a → a .0 ≡ s) s (set-results (holds cat (s .table) c i) (class cat c) (two v 0) (bad-in-set cat s c i v)) _ (λ r e y. refl) (λ clear y. absurd (y refl))
+  a-refused-set-changes-nothing = unless-refused-is (λ a. Refused a → a .0 ≡ s) s (set-results (holds cat (s .table) c i) (class cat c) (two v 0) (bad-in-set cat s c i v)) _ (λ r e y. refl)
+      (λ clear y. absurd (y refl))
 
   -- a refused Get (and every other Get)
   pub a-get-changes-nothing : get cat s c i v .0 ≡ s

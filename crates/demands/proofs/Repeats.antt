@@ -19,8 +19,8 @@ use Rattle.store.specs.Decode.{Held, decode}
 use Rattle.store.specs.Entries.{written, leave, enter}
 use Rattle.store.specs.Fitting.{AllFit}
 use Rattle.store.proofs.Soundness.{sound-is-an-encoding}
-use Rattle.kept.proofs.Refusals.{unless-dropped-is}
-use Rattle.kept.proofs.Outcomes.{drop-of, sent}
+use Rattle.legality.proofs.Refusals.{unless-dropped-is}
+use Rattle.legality.proofs.Outcomes.{drop-of, sent}
 use Rattle.demands.proofs.DemandOne.{the-outcome-is-the-rules, the-store-holds-what-the-rules-leave}
 
 -- a message whose first 40 bytes are those of the command that is remembered gets the remembered reply, and the state stays

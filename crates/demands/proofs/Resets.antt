@@ -7,9 +7,9 @@ use mathlib.Core.Option.{Option, none, some}
 use mathlib.Core.Logic.{_≢_}
 use mathlib.Core.List.{List, [], _∷_}
 use lib.ListN.{replicate}
-use Rattle.rules.specs.Maps.{_and_, _or_, given, find, has, is-some, each, first-that-applies}
+use Rattle.rules.specs.Maps.{_or_, given, find, has, is-some, each, first-that-applies}
 use Rattle.rules.specs.Bytes.{byte, number}
-use Rattle.rules.specs.Catalogue.{stored, Class, Catalogue, class, attribute, is-stored, is-created, leader, key, ont-data}
+use Rattle.rules.specs.Catalogue.{Class, Catalogue, class, attribute, is-stored, is-created, leader, key, ont-data}
 use Rattle.rules.specs.State.{Contents, Entry, Table, Alarms, State, entry, holds, contents, content, read, counter, alarms-of, overwrite, change, with-counter}
 use Rattle.rules.specs.Legal.{legal-state}
 use Rattle.rules.specs.Messages.{message-number, class-in, instance-in, contents-in, message-drops, reset-number, reply-to, Answer}
@@ -18,18 +18,18 @@ use Rattle.rules.specs.Run.{perform, first-results, answer, remember, answer-an
 use Rattle.rules.specs.Commands.{first-content, reset-contents, reset-table, stays, was-reset, reset-results, reset}
 use Rattle.rules.specs.WellFormed.{WellFormed, rights-only-if-stored}
 use Rattle.rules.proofs.Laws.{never, true-false, false-not, or-left, eqb-false, same?, find-each}
-use Rattle.rules.proofs.MapLaws.{find-append}
+use Rattle.rules.proofs.MapLaws.{find-append, find-keep, find-lost, first-has}
 use Rattle.rules.proofs.Lookups.{implied, W-supported, attribute-says}
 use Rattle.rules.proofs.Standing.{key-class}
-use Rattle.kept.proofs.Refusals.{unless-refused-is, first-has}
-use Rattle.kept.proofs.LegalStates.{open-state}
-use Rattle.kept.proofs.Tables.{LegalLive, reset-legal}
-use Rattle.kept.proofs.Holds.{has-each, holds-there, there-known, is-created-one, created-alone}
-use Rattle.kept.proofs.Counter.{with-counter-legal}
+use Rattle.legality.proofs.Refusals.{unless-refused-is}
+use Rattle.legality.proofs.LegalStates.{open-state}
+use Rattle.legality.proofs.Tables.{LegalLive, reset-legal}
+use Rattle.legality.proofs.Holds.{has-each, holds-there, there-known, is-created-one, created-alone}
+use Rattle.legality.proofs.Counter.{with-counter-legal}
 use Rattle.demands.proofs.AccidentOnBytes.{IsNoRepeat, answered-anew}
 use Rattle.demands.proofs.Sets.{others-stay, named-change, number-one, written-is-there, counter-is-there}
 use Rattle.demands.proofs.Gets.{read-stored}
-use Rattle.demands.proofs.Creates.{find-keep, find-lost, holds-changed, above-0, answer-0}
+use Rattle.demands.proofs.Creates.{holds-changed, above-0, answer-0}
 
 -- ---- the contents after a reset
 
@@ -59,7 +59,8 @@ module _ (cat : Catalogue) (t : Table) where
   entry-after-reset : (k : ℕ) → find k (t .created) ≡ none → entry k (reset-table cat t) ≡ reset-entry (entry k t)
   unfolding entry reset-table find each
   entry-after-reset k gone =
-      ap (λ (o : Option Entry). given o [] (λ e. e)) (find-append k (each (λ k e. reset-entry e) (t .automatic)) [] ∙ ap (λ (o : Option Entry). given o none some) (find-each (λ k e. reset-entry e) k (t .automatic)))
+      ap (λ (o : Option Entry). given o [] (λ e. e))
+      (find-append k (each (λ k e. reset-entry e) (t .automatic)) [] ∙ ap (λ (o : Option Entry). given o none some) (find-each (λ k e. reset-entry e) k (t .automatic)))
       ∙ go (find k (t .automatic))
       ∙ sym (ap (λ (o : Option Entry). reset-entry (given o [] (λ e. e))) (find-append k (t .automatic) (t .created) ∙ ap (λ (o : Option Entry). given (find k (t .automatic)) o some) gone))
     where

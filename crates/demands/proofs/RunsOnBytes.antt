@@ -18,7 +18,7 @@ use Rattle.store.specs.Decode.{Held, decode}
 use Rattle.store.specs.Entries.{leave, refuse, enter, power-on}
 use Rattle.store.specs.Fitting.{AllFit}
 use Rattle.store.proofs.Soundness.{sound-is-an-encoding, decode-of-held, decode-front}
-use Rattle.kept.proofs.Kept.{OfBytes, AllOfBytes, the-fresh-state-is-legal}
+use Rattle.legality.proofs.Kept.{OfBytes, AllOfBytes, the-fresh-state-is-legal}
 use Rattle.demands.specs.Lending.{lend, memory-after, outcomes, memory-after-all}
 use Rattle.demands.proofs.DemandOne.{the-outcome-is-the-rules, the-store-holds-what-the-rules-leave}
 

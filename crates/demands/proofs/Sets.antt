@@ -9,9 +9,8 @@ use mathlib.Core.Logic.{_≢_}
 use mathlib.Core.List.{List, [], _∷_}
 use lib.ListN.{length, drop}
 use lib.Dec.{eqb}
-use Rattle.rules.specs.Maps.{_and_, _or_, given, find, has, is-some, keys, keep, each, at-key, among, those, first-that-applies}
+use Rattle.rules.specs.Maps.{_and_, _or_, given, find, has, keys, keep, each, at-key, among, first-that-applies}
 use Rattle.rules.specs.Bytes.{byte, two, number, number-from}
-use Rattle.rules.specs.Masks.{mask}
 use Rattle.rules.specs.Catalogue.{Class, Catalogue, class, known, attribute, supported, family, size-of, is-stored, stored-numbers, leader, key, ont-data}
 use Rattle.rules.specs.State.{Contents, Entry, Table, State, entries, entry, holds, contents, content, counter, overwrite, change, with-counter, with-table}
 use Rattle.rules.specs.Legal.{automatic-keys, legal-state}
@@ -20,20 +19,21 @@ use Rattle.rules.specs.Reports.{Outcome, answered}
 use Rattle.rules.specs.Run.{perform, first-results, answer, remember, answer-anew, handle}
 use Rattle.rules.specs.Commands.{cut, asked, unsupported, unwritable, set-by, bad-in-set, set-results, moved-by-set, set}
 use Rattle.rules.specs.WellFormed.{WellFormed, rights-only-if-stored}
-use Rattle.rules.proofs.Laws.{cases, never, true-false, not-true, not-false, false-not, both, and-true, or-left, eqb-true, eqb-false, eqb-eq, eqb-ne, same?, all-among, find-each, find-some, has-among, among-here}
-use Rattle.rules.proofs.MapLaws.{each-append, find-kept}
+use Rattle.rules.proofs.Laws.{cases, true-false, not-true, not-false, false-not, both, and-true, or-left, eqb-true, eqb-false, eqb-eq, eqb-ne, same?, all-among, find-each}
+use Rattle.rules.proofs.Laws.{find-some, has-among, among-here}
+use Rattle.rules.proofs.MapLaws.{each-append, find-kept, first-has}
 use Rattle.rules.proofs.ByteLaws.{keys-cut}
 use Rattle.rules.proofs.Lookups.{implied, known-attribute, W-supported, supported-known, attribute-says}
 use Rattle.rules.proofs.Families.{family-has}
-use Rattle.kept.proofs.Refusals.{NoneApplies, none-applies, unless-refused-is, first-has, none-of-those}
-use Rattle.kept.proofs.LegalStates.{open-state}
-use Rattle.kept.proofs.Tables.{LegalEntry, LegalLive}
-use Rattle.kept.proofs.Contents.{LegalContents}
-use Rattle.kept.proofs.Holds.{There, holds-there, find-in-automatic, entry-legal}
-use Rattle.kept.proofs.Counter.{contents-legal}
-use Rattle.kept.proofs.ReplyBytes.{the-result-is-byte-8}
+use Rattle.legality.proofs.Refusals.{NoneApplies, none-applies, unless-refused-is, none-of-those}
+use Rattle.legality.proofs.LegalStates.{open-state}
+use Rattle.legality.proofs.Tables.{LegalEntry, LegalLive}
+use Rattle.legality.proofs.Contents.{LegalContents, content-kept, content-put}
+use Rattle.legality.proofs.Holds.{There, holds-there, find-in-automatic, entry-legal}
+use Rattle.legality.proofs.Counter.{contents-legal}
+use Rattle.legality.proofs.ReplyBytes.{the-result-is-byte-8}
 use Rattle.extending.proofs.Cuts.{cut-none}
-use Rattle.kept.proofs.Outcomes.{sent}
+use Rattle.legality.proofs.Outcomes.{sent}
 use Rattle.demands.proofs.AccidentOnBytes.{IsNoRepeat, answered-anew}
 
 -- ---- the contents after a change of one instance
@@ -87,22 +87,6 @@ module _ (cat : Catalogue) (t : Table) (c i : ℕ) (f : Contents → Contents) w
       go (some e) = rw (find-each (λ n a. cond (eqb n c) (f a) a) c e, eqb-true c c refl) (pick (find c e))
 
 -- ---- the contents after new ones are put over them
-
-pub content-kept : (new r : Contents) (n : ℕ) → find n new ≡ none → content n (overwrite new r) ≡ content n r
-unfolding content overwrite
-content-kept new r n e = rw (find-each (λ m v. given (find m new) v (λ w. w)) n r) (go (find n r))
-  where
-    go : (o : Option (List ℕ)) → given (given {B = Option (List ℕ)} o none (λ v. some (given (find n new) v (λ w. w)))) [] (λ v. v) ≡ given o [] (λ v. v)
-    go none = refl
-    go (some v) = rw e refl
-
-pub content-put : (new r : Contents) (n : ℕ) (w : List ℕ) → find n new ≡ some w → has n r ≡ true → content n (overwrite new r) ≡ w
-unfolding content overwrite
-content-put new r n w e h = rw (find-each (λ m v. given (find m new) v (λ w. w)) n r) (go (find n r) h)
-  where
-    go : (o : Option (List ℕ)) → is-some o ≡ true → given (given {B = Option (List ℕ)} o none (λ v. some (given (find n new) v (λ w. w)))) [] (λ v. v) ≡ w
-    go none h = never h
-    go (some v) h = rw e refl
 
 module _ (cat : Catalogue) (t : Table) (c i : ℕ) (new : Contents) where
   -- what isn't among the new contents stays, in every instance
@@ -160,7 +144,6 @@ module _ (cat : Catalogue) (s : State) (c i : ℕ) (v : List ℕ) where
       (λ clear y. (clear, refl))
 
   table-is : Accepted → table-after ≡ moved-by-set cat c overwritten
-  unfolding with-table
   table-is h = ap (λ (a : Answer). a .0 .table) (accepted-is h .1)
 
   -- moving the counter changes nothing else

@@ -20,11 +20,12 @@ use Rattle.rules.proofs.Laws.{cases, true-false, eqb-eq, both, and-true, leb-le
 use Rattle.rules.proofs.MapLaws.{some-eq, none-some, Each, each-of-every, each-both, each-imp, each-found, rising-up}
 use Rattle.rules.proofs.Lookups.{found-class, found-attribute, unknown-attribute, attribute-says}
 use Rattle.rules.proofs.Families.{classes-found}
-use Rattle.kept.proofs.Tables.{LegalTable, open-table, close-table, frozen-legal}
-use Rattle.kept.proofs.Counter.{stored-value}
-use Rattle.kept.proofs.LegalStates.{open-state}
+use Rattle.legality.proofs.Tables.{LegalTable, open-table, close-table, frozen-legal}
+use Rattle.legality.proofs.Counter.{stored-value}
+use Rattle.legality.proofs.LegalStates.{open-state}
 use Rattle.extending.proofs.Cuts.{total-append}
 use Rattle.extending.proofs.Sections.{sections-put-together-are-all}
+use Rattle.rules.proofs.ByteLaws.{length-bytes, two-of-bytes}
 
 -- ---- lists gathered from lists
 
@@ -193,11 +194,6 @@ no-section-is-empty cat wf t k p e = leb-le 1 (length (p .shows)) (both (all-nth
 
 -- ---- the values that a section shows
 
-length-bytes : (k n : ℕ) → length (bytes k n) ≡ k
-unfolding bytes
-length-bytes zero n = refl
-length-bytes (suc k) n = ap suc (length-bytes k n)
-
 module _ (cat : Catalogue) (wf : WellFormed cat) (stand : List ℕ) (t : Table) (h : LegalTable cat wf stand t) where
   stored-short : (c i n : ℕ) → length (content n (contents cat t c i)) ≤ size-of (class cat c) n
   stored-short c i n = stored-value cat wf stand t h (λ v. length v ≤ size-of (class cat c) n) c i n (omega arith) (λ r v x. let z = x .sized in omega arith)
@@ -243,10 +239,6 @@ pub the-answer-has-the-number-of-sections : (cat : Catalogue) (s : State)
     → (upload cat s 2 0 .1 ≡ bytes 2 (length (sections cat (frozen (s .table))))) × (upload cat s 2 0 .0 .upload ≡ some (frozen (s .table)))
 unfolding upload if-ont-data _and_
 the-answer-has-the-number-of-sections cat s = (refl, refl)
-
-two-of-bytes : (n : ℕ) → n ≤ 65535 → two (bytes 2 n) 0 ≡ n
-unfolding bytes
-two-of-bytes n h = omega arith
 
 -- Read as a number, it is that number: in a legal state of a well-formed catalogue two bytes are enough.
 pub the-count-is-the-number-of-sections : (cat : Catalogue) (wf : WellFormed cat) (s : State) → legal-state cat s ≡ true

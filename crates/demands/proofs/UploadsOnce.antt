@@ -2,28 +2,28 @@
 use Prim.Native.Nat.{ℕ, suc, _+_, _<_}
 use native.Mathlib.Omega.{arith}
 use mathlib.Core.Path.{_≡_, refl, sym, _∙_, ap}
-use mathlib.Core.Bool.{Bool, true, false, not, cond}
+use mathlib.Core.Bool.{Bool, true, false, cond}
 use mathlib.Core.Option.{some}
 use mathlib.Core.Logic.{_≢_}
 use mathlib.Core.List.{List, [], _∷_, _++_, map}
 use lib.Dec.{eqb}
 use Rattle.rules.specs.Maps.{_and_, Map, find, has, keys, keep, gather, among}
-use Rattle.rules.specs.Catalogue.{Catalogue, class, known, supported, is-created, leader, family, key, ont-data}
+use Rattle.rules.specs.Catalogue.{Catalogue, class, known, supported, is-created, leader, family, key}
 use Rattle.rules.specs.State.{Entry, Table, State, class-of, number-of, entries, holds}
 use Rattle.rules.specs.Legal.{legal-entry, automatic-keys, legal-state}
 use Rattle.rules.specs.Walks.{instances-of, sections, frozen}
 use Rattle.rules.specs.WellFormed.{WellFormed, attributes-rise}
-use Rattle.rules.proofs.Laws.{cases, never, true-false, false-not, or-none, true-and, and-true, eqb-true, eqb-false, eqb-eq, eqb-ne, all-among, every-find, find-some, has-among}
+use Rattle.rules.proofs.Laws.{cases, never, true-false, or-none, true-and, and-true, eqb-true, eqb-false, eqb-eq, eqb-ne, all-among, every-find, find-some, has-among}
 use Rattle.rules.proofs.MapLaws.{some-eq, none-some, Up, up-weaken, rising-up, up-among, among-past}
 use Rattle.rules.proofs.Lookups.{known-class, class-says, supported-known}
-use Rattle.rules.proofs.Families.{family-has, alone}
+use Rattle.rules.proofs.Families.{family-has}
 use Rattle.rules.proofs.Standing.{key-class, automatic-keys-stand, stands-not-created, automatic-rise}
-use Rattle.kept.proofs.Tables.{LegalEntry, open-entry, LegalTable, frozen-legal}
-use Rattle.kept.proofs.Holds.{There, holds-there, there-holds, Known, holds-known, found-in, find-in-automatic, find-in-created}
-use Rattle.kept.proofs.LegalStates.{open-state}
+use Rattle.legality.proofs.Tables.{LegalEntry, open-entry, LegalTable, frozen-legal}
+use Rattle.legality.proofs.Holds.{There, holds-there, there-holds, Known, holds-known, found-in}
+use Rattle.legality.proofs.LegalStates.{open-state}
 use Rattle.extending.proofs.Sections.{number-key}
-use Rattle.demands.proofs.Creates.{find-keep}
 use Rattle.demands.proofs.Uploads.{shown-by, all-attributes, each-attribute-is-shown-once}
+use Rattle.legality.proofs.Frozen.{frozen-entry}
 
 -- ---- how often a number is in a list
 
@@ -174,7 +174,8 @@ module _ (c i n : ℕ) where
 module _ (cat : Catalogue) (wf : WellFormed cat) (t : Table) (h : LegalTable cat wf (automatic-keys cat) t) where
   entry-once : (k : ℕ) (e : Entry) → find k (entries t) ≡ some e → times k (keys (entries t)) ≡ 1
   entry-once k e found =
-      let sum : times k (keys (entries t)) ≡ times k (keys (t .automatic)) + times k (keys (t .created)) = ap (times k) (keys-append (t .automatic) (t .created)) ∙ times-append k (keys (t .automatic)) (keys (t .created)) in
+      let sum : times k (keys (entries t)) ≡ times k (keys (t .automatic)) + times k (keys (t .created)) = ap (times k) (keys-append (t .automatic) (t .created))
+      ∙ times-append k (keys (t .automatic)) (keys (t .created)) in
       found-in k (t .automatic) (t .created) e found
       (λ x.
       let here : among k (keys (t .automatic)) ≡ true = rw (← has-among k (t .automatic), x) refl in
@@ -232,7 +233,8 @@ module _ (cat : Catalogue) (wf : WellFormed cat) (t : Table) (h : LegalTable cat
           let legal : LegalEntry cat k (f .0) = open-entry cat k (f .0) (found-in k (t .automatic) (t .created) (f .0) (f .1)
           (λ x. every-find (legal-entry cat) (t .automatic) (h .automatic-legal) k (f .0) x)
           (λ z x. every-find (legal-entry cat) (t .created) (h .created-legal) k (f .0) x)) in
-          let has-it : has c (f .0) ≡ true = has-among c (f .0) ∙ ap (among c) (legal .its-keys) ∙ ap (λ (d : ℕ). among c (keys (family cat d))) (key-class (leader cat c) i small) ∙ family-has cat wf c kn in
+          let has-it : has c (f .0) ≡ true = has-among c (f .0) ∙ ap (among c) (legal .its-keys) ∙ ap (λ (d : ℕ). among c (keys (family cat d))) (key-class (leader cat c) i small)
+          ∙ family-has cat wf c kn in
           true-false (there-holds cat t c i (record { its-entry = f .0; found = f .1; has-class = has-it })) gone)
           (λ y. y)
 
@@ -250,12 +252,6 @@ module _ (cat : Catalogue) (wf : WellFormed cat) (s : State) (legal : legal-stat
       let k : ℕ = key (leader cat c) i in
       let x : There cat t c i = holds-there cat t c i there in
       let y : Known cat wf t l c i = holds-known cat wf t l c i there in
-      let not-2 : leader cat c ≢ ont-data = λ z. ne (alone cat wf ont-data (ap is-created (wf .class-2-has-instance-0-alone)) c
-      (ap (λ (d : ℕ). among c (keys (family cat d))) (sym z) ∙ family-has cat wf c (y .is-known))) in
-      let stays : not (eqb (class-of k) ont-data) ≡ true = false-not (ap (λ (d : ℕ). eqb d ont-data) (key-class (leader cat c) i (y .small)) ∙ eqb-false (leader cat c) ont-data not-2) in
-      let same : find k (keep (λ k e. not (eqb (class-of k) ont-data)) (t .automatic)) ≡ find k (t .automatic) = find-keep (λ k. not (eqb (class-of k) ont-data)) k (t .automatic) stays in
-      let still : find k (entries (frozen t)) ≡ some (x .its-entry) = found-in k (t .automatic) (t .created) (x .its-entry) (x .found)
-      (λ f. find-in-automatic k (frozen t .automatic) (t .created) (x .its-entry) (same ∙ f))
-      (λ gone f. find-in-created k (frozen t .automatic) (t .created) (x .its-entry) (same ∙ gone) f) in
+      let still : find k (entries (frozen t)) ≡ some (x .its-entry) = frozen-entry cat wf c t i (y .small) (y .is-known) ne ∙ x .found in
       each-attribute-of-a-frozen-table-is-shown-exactly-once cat wf (frozen t) (frozen-legal cat wf t l) c i n (y .small)
       (there-holds cat (frozen t) c i (record { its-entry = x .its-entry; found = still; has-class = x .has-class })) sup

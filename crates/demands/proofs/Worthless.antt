@@ -21,7 +21,7 @@ use Rattle.rules.proofs.MapLaws.{some-eq, none-some}
 use Rattle.store.specs.Decode.{Held, decode}
 use Rattle.store.specs.Entries.{Left, enter, power-on}
 use Rattle.store.proofs.EntryExamples.{small-store, room, power-on-of-small, create-bridge, create-reply, computing-entries, behind}
-use Rattle.kept.proofs.Outcomes.{drop-of, sent}
+use Rattle.legality.proofs.Outcomes.{drop-of, sent}
 use Rattle.demands.proofs.DemandOne.{the-outcome-is-the-rules}
 use Rattle.demands.proofs.AccidentOnBytes.{Passes, IsNoRepeat, an-upload-counts-the-sections-and-freezes-the-table}
 

@@ -1,130 +1,138 @@
 -- What an entry does, by drop 1, drop 2 and the product that a sound store names; and what a power-on does.
 use Prim.Native.Nat.{ℕ, _≤_, _<_}
-use native.Mathlib.Omega.{arith}
-use mathlib.Core.Path.{_≡_, refl, sym, _∙_, ap}
-use mathlib.Core.Logic.{_≢_}
-use mathlib.Core.Bool.{Bool, true, false}
+use mathlib.Core.Path.{_≡_, refl, sym, _∙_, ap, subst}
+use mathlib.Core.Bool.{true, false, not}
 use mathlib.Core.Option.{Option, none, some}
-use mathlib.Core.List.{List, [], _++_}
+use mathlib.Core.List.{List, [], _++_, _∷_}
 use lib.ListN.{length, take, drop, take-append-drop}
-use lib.Dec.{eqb, ltb}
+use lib.Dec.{ltb}
 use Rattle.rules.specs.Maps.{find, is-some, first-that-applies}
 use Rattle.rules.specs.Bytes.{byte}
 use Rattle.rules.specs.Catalogue.{Catalogue}
 use Rattle.rules.specs.State.{State}
 use Rattle.rules.specs.Legal.{legal-state}
-use Rattle.rules.specs.Products.{Small, Large, built-products}
-use Rattle.rules.specs.Run.{Call, store-length, taken, fresh}
-use Rattle.rules.proofs.Laws.{cases, true-false, eqb-false, eqb-eq, ltb-le, lt-ltb, le-ltb}
+use Rattle.rules.specs.Products.{built-products}
+use Rattle.rules.specs.Run.{Call, store-length, taken, fresh, reply-length}
+use Rattle.rules.proofs.Laws.{cases, true-false, lt-ltb, le-ltb}
 use Rattle.rules.proofs.MapLaws.{some-eq, none-some}
 use Rattle.store.specs.Layout.{encode}
 use Rattle.store.specs.Decode.{Held, read-state, decode, sound}
 use Rattle.store.specs.Entries.{refuse, enter, power-on}
 use Rattle.store.proofs.StateBack.{read-back}
 use Rattle.store.proofs.Soundness.{first-byte, sound-is-an-encoding}
-use Rattle.catalogue.specs.CatOf.{cat-of, product-of}
-use Rattle.catalogue.proofs.ProductLaws.{product-found, well-formed-of, fits-of}
-use Rattle.holding.specs.Held.{state-in, Sound, stored}
-use Rattle.frame.specs.Drops.{drop-code}
-use Rattle.engine.specs.Entering.{first-drops}
+use Rattle.class_tables.specs.Built.{cat-of, product-of, Names, named-catalogue}
+use Rattle.class_tables.proofs.EveryProduct.{product-found, well-formed-of, fits-of}
+use Rattle.sound_store.specs.Held.{state-in, stored}
+use Rattle.engine.specs.Entering.{first-drops, Enters, Opened}
 use Rattle.outcome.specs.declared.Outcome.the-variants.{Dropped}
+use Rattle.engine.specs.declared.Entry.the-variants as entry
 use Rattle.outcome.specs.Outcomes.{left-by, leaves}
+use Rattle.class_tables.specs.declared.Product.{Product}
+use Rattle.class_tables.specs.declared.Named.{Named}
+use Rattle.class_tables.specs.declared.Named.the-variants.{Is, Nothing}
+use native.Mathlib.Omega.{arith}
 
--- the product of a number that there is
-pub named : (p : ℕ) (cat : Catalogue) → find p built-products ≡ some cat → (product-of (eqb p 2) ≡ p) × (cat-of (eqb p 2) ≡ cat)
-unfolding built-products find cat-of
-named p cat e = cases (eqb p 1)
-    (λ y. let one : p ≡ 1 = eqb-eq p 1 y in rw one (refl, some-eq (rw one at e)))
-    (λ y. cases (eqb p 2)
-    (λ z. let two : p ≡ 2 = eqb-eq p 2 z in rw two (refl, some-eq (rw two at e)))
-    (λ z. none-some (rw (y, z) at e)))
+-- ---- a sound store, and the product that its first byte names
 
-abbrev held : Bool → List ℕ → Held
-held l b = record { product = product-of l; catalogue = cat-of l; state = state-in l b }
-
--- a store of which `l` says whether it is a large one's
-pub record Opened (l : Bool) (b : List ℕ) : Type 0 where
-  pub its-sound : Sound l b
-  pub its-state : decode built-products b ≡ some (held l b)
-
-private-open : (p : ℕ) (cat : Catalogue) (s : State) (b : List ℕ) (l : Bool) → product-of l ≡ p → cat-of l ≡ cat
+read-as : (p : ℕ) (cat : Catalogue) (s : State) (b : List ℕ) (pr : Product) → product-of pr ≡ p → cat-of pr ≡ cat
     → legal-state cat s ≡ true → take store-length b ≡ encode p cat s → store-length ≤ length b
-    → decode built-products b ≡ some (record { product = p; catalogue = cat; state = s }) → Opened l b
+    → decode built-products b ≡ some (record { product = p; catalogue = cat; state = s }) → Opened pr b
 unfolding state-in
-private-open p cat s b l ep ec legal is long dec =
-    let g : legal-state (cat-of l) s ≡ true = rw ec legal in
-    let code : take store-length b ≡ encode (product-of l) (cat-of l) s = rw (ep, ec) is in
-    let st : read-state (cat-of l) (take store-length b) ≡ s = ap (read-state (cat-of l)) code ∙ read-back (product-of l) (cat-of l) s (well-formed-of l) (fits-of l) g in
+read-as p cat s b pr ep ec legal is long dec =
+    let g : legal-state (cat-of pr) s ≡ true = rw ec legal in
+    let code : take store-length b ≡ encode (product-of pr) (cat-of pr) s = rw (ep, ec) is in
+    let st : read-state (cat-of pr) (take store-length b) ≡ s =
+    ap (read-state (cat-of pr)) code ∙ read-back (product-of pr) (cat-of pr) s (well-formed-of pr) (fits-of pr) g in
     record {
       its-sound = record { long = long; legal = rw st g; is = rw st code };
       its-state = dec ∙ ap some (λ d. record { product = sym ep d; catalogue = sym ec d; state = sym st d });
     }
 
-pub opened : (b : List ℕ) → sound built-products b ≡ true → Opened (eqb (byte b 0) 2) b
+pub sound-long : (b : List ℕ) → sound built-products b ≡ true → store-length ≤ length b
 unfolding sound
-opened b h = go (decode built-products b) refl
+sound-long b h = go (decode built-products b) refl
   where
-    go : (o : Option Held) → decode built-products b ≡ o → Opened (eqb (byte b 0) 2) b
+    go : (o : Option Held) → decode built-products b ≡ o → store-length ≤ length b
     go none e = true-false h (ap is-some e)
-    go (some k) e =
-        let d = sound-is-an-encoding built-products b k e in
-        let p : byte b 0 ≡ k .product = ap (λ (x : List ℕ). byte x 0) (sym (take-append-drop store-length b) ∙ ap (λ (x : List ℕ). x ++ drop store-length b) (d .2)) ∙ first-byte (k .product) (k .catalogue) (k .state) (drop store-length b) in
-        let n = named (k .product) (k .catalogue) (d .0) in
-        rw p (private-open (k .product) (k .catalogue) (k .state) b (eqb (k .product) 2) (n .0) (n .1) (d .1) (d .2) (d .3) e)
+    go (some k) e = sound-is-an-encoding built-products b k e .3
 
--- ---- the drops that come first
+module _ (b : List ℕ) (h : sound built-products b ≡ true) {r : Named} (names : Names (byte b 0) r) where
+  -- the product that it was encoded for
+  its-product : (k : Held) → decode built-products b ≡ some k → byte b 0 ≡ k .product
+  its-product k e =
+      let d = sound-is-an-encoding built-products b k e in
+      let whole : b ≡ encode (k .product) (k .catalogue) (k .state) ++ drop store-length b =
+      sym (take-append-drop store-length b) ∙ ap (λ (x : List ℕ). x ++ drop store-length b) (d .2) in
+      ap (λ (x : List ℕ). byte x 0) whole ∙ first-byte (k .product) (k .catalogue) (k .state) (drop store-length b)
 
-nothing-some : {A : Type 0} (o : Option A) → is-some o ≡ false → o ≡ none
-nothing-some none e = refl
-nothing-some (some a) e = true-false refl e
+  its-catalogue : (k : Held) → decode built-products b ≡ some k → named-catalogue r ≡ some (k .catalogue)
+  its-catalogue k e = names .found ∙ ap (λ (p : ℕ). find p built-products) (its-product k e) ∙ sound-is-an-encoding built-products b k e .0
 
--- as they are tried
+  pub opened-as : (pr : Product) → r ≡ Is pr → Opened pr b
+  unfolding sound
+  opened-as pr is = go (decode built-products b) refl
+    where
+      go : (o : Option Held) → decode built-products b ≡ o → Opened pr b
+      go none e = true-false h (ap is-some e)
+      go (some k) e =
+          let d = sound-is-an-encoding built-products b k e in
+          let same : cat-of pr ≡ k .catalogue = some-eq (sym (ap named-catalogue is) ∙ its-catalogue k e) in
+          read-as (k .product) (k .catalogue) (k .state) b pr (names .its-number pr is ∙ its-product k e) same (d .1) (d .2) (d .3) e
+
+  -- every sound store names one
+  pub is-named : {A : Type 0} → r ≡ Nothing → A
+  unfolding sound
+  is-named {A = A} is = go (decode built-products b) refl
+    where
+      go : (o : Option Held) → decode built-products b ≡ o → A
+      go none e = true-false h (ap is-some e)
+      go (some k) e = none-some (sym (ap named-catalogue is) ∙ its-catalogue k e)
+
+-- ---- what a call finds first
+
 module _ (room : ℕ) (b : List ℕ) where
-  abbrev first-code : ℕ
-  first-code = drop-code (first-that-applies (first-drops room b))
-
-  pub room-first : room < 48 → 1 ≡ first-code
+  pub no-room : room < reply-length → Enters room b (entry.Dropped 1)
   unfolding first-that-applies
-  room-first h = rw (lt-ltb room 48 h) refl
+  no-room h = record {
+    dropped = λ n e. let z : 1 ≡ n = cc in rw (lt-ltb room reply-length h) (ap some z);
+    has-room = λ pr e. absurd (let z : _≡_ {A = ℕ} 0 1 = cc in omega arith);
+    opened = λ pr e. absurd (let z : _≡_ {A = ℕ} 0 1 = cc in omega arith);
+  }
 
-  pub sound-next : 48 ≤ room → sound built-products b ≡ false → 2 ≡ first-code
+  pub not-sound : reply-length ≤ room → sound built-products b ≡ false → Enters room b (entry.Dropped 2)
   unfolding first-that-applies
-  sound-next h e = rw (le-ltb room 48 h, e) refl
+  not-sound h u = record {
+    dropped = λ n e. let z : 2 ≡ n = cc in rw (le-ltb room reply-length h, u) (ap some z);
+    has-room = λ pr e. absurd (let z : _≡_ {A = ℕ} 0 1 = cc in omega arith);
+    opened = λ pr e. absurd (let z : _≡_ {A = ℕ} 0 1 = cc in omega arith);
+  }
 
-  pub neither : 48 ≤ room → sound built-products b ≡ true → 0 ≡ first-code
-  unfolding first-that-applies
-  neither h e = rw (le-ltb room 48 h, e) refl
+  pub enters : reply-length ≤ room → (pr : Product) → Opened pr b → Enters room b (entry.To pr)
+  enters h pr o = record {
+    dropped = λ n e. cc;
+    has-room = λ q e. h;
+    opened = λ q e. let z : pr ≡ q = cc in subst (λ (x : Product). Opened x b) z o;
+  }
 
--- neither applies: there is room, and the store is sound
-pub none-first : (room : ℕ) (b : List ℕ) → 0 ≡ drop-code (first-that-applies (first-drops room b)) → (48 ≤ room) × (sound built-products b ≡ true)
-unfolding first-that-applies
-none-first room b e = cases (ltb room 48)
-    (λ y. absurd (let z : 0 ≡ 1 = rw y at e in omega arith))
-    (λ y. cases (sound built-products b)
-    (λ t. (ltb-le room 48 y, t))
-    (λ t. absurd (let z : 0 ≡ 2 = rw (y, t) at e in omega arith)))
+-- ---- and what it then does
 
 module _ (c : Call) (b buffer : List ℕ) where
-  -- one of them applies
-  pub first-dropped : (n : ℕ) → n ≡ drop-code (first-that-applies (first-drops (length buffer) b)) → n ≢ 0 → left-by (Dropped n) b buffer ≡ enter built-products c b buffer
+  pub first-dropped : {n : ℕ} → first-that-applies (first-drops (length buffer) b) ≡ some n → left-by (Dropped n) b buffer ≡ enter built-products c b buffer
   unfolding enter refuse sound first-that-applies
-  first-dropped n e other = cases (ltb (length buffer) 48)
-      (λ y. let z : n ≡ 1 = rw y at e in ap (λ (k : ℕ). left-by (Dropped k) b buffer) z ∙ rw y refl)
-      (λ y. cases (is-some (decode built-products b))
-      (λ t. absurd (other (rw (y, t) at e)))
-      (λ t. let z : n ≡ 2 = rw (y, t) at e in ap (λ (k : ℕ). left-by (Dropped k) b buffer) z ∙ rw (y, nothing-some (decode built-products b) t) refl))
+  first-dropped {n = n} e = cases (ltb (length buffer) reply-length)
+      (λ y. let z : 1 ≡ n = some-eq (rw y at e) in rw (← z, y) refl)
+      (λ y. go (decode built-products b) refl (rw y at e) y)
+    where
+      go : (o : Option Held) → decode built-products b ≡ o → first-that-applies ((not (is-some (decode built-products b)), 2) ∷ []) ≡ some n
+          → ltb (length buffer) reply-length ≡ false → left-by (Dropped n) b buffer ≡ enter built-products c b buffer
+      go none d f y = let z : 2 ≡ n = some-eq (rw d at f) in rw (← z, y, d) refl
+      go (some k) d f y = none-some (rw d at f)
 
   -- none does: the call does what it does to the state
-  module _ (clear : 0 ≡ drop-code (first-that-applies (first-drops (length buffer) b))) where
-    pub opened-first : Opened (eqb (byte b 0) 2) b
-    opened-first = opened b (none-first (length buffer) b clear .1)
-
-    pub room-for-reply : 48 ≤ length buffer
-    room-for-reply = none-first (length buffer) b clear .0
-
-    pub taken-in : leaves (eqb (byte b 0) 2) (state-in (eqb (byte b 0) 2) b) b buffer (taken (cat-of (eqb (byte b 0) 2)) (state-in (eqb (byte b 0) 2) b) c) ≡ enter built-products c b buffer
-    unfolding enter
-    taken-in = rw (le-ltb (length buffer) 48 room-for-reply, opened-first .its-state) refl
+  pub taken-in : (pr : Product) → reply-length ≤ length buffer → Opened pr b
+      → leaves pr (state-in pr b) b buffer (taken (cat-of pr) (state-in pr b) c) ≡ enter built-products c b buffer
+  unfolding enter
+  taken-in pr room o = rw (le-ltb (length buffer) reply-length room, o .its-state) refl
 
 -- ---- power-on
 
@@ -134,12 +142,16 @@ module _ (b : List ℕ) where
   too-short p h = rw (lt-ltb (length b) store-length h) refl
 
   module _ (long : store-length ≤ length b) where
-    pub no-product : (p : ℕ) → p ≢ 1 → p ≢ 2 → (some 12, b) ≡ power-on built-products p b
-    unfolding power-on built-products find
-    no-product p one two = rw (le-ltb (length b) store-length long, eqb-false p 1 one, eqb-false p 2 two) refl
+    pub no-product : (p : ℕ) {r : Named} → Names p r → r ≡ Nothing → (some 12, b) ≡ power-on built-products p b
+    unfolding power-on
+    no-product p names e =
+        let none-found : find p built-products ≡ none = sym (names .found) ∙ ap named-catalogue e in
+        rw (le-ltb (length b) store-length long, none-found) refl
 
-    pub fresh-one : (p : ℕ) (l : Bool) (after : List ℕ) → p ≡ product-of l → after ≡ stored l (fresh (cat-of l)) b → (none, after) ≡ power-on built-products p b
+    pub fresh-one : (p : ℕ) {r : Named} → Names p r → (pr : Product) → r ≡ Is pr → (after : List ℕ) → after ≡ stored pr (fresh (cat-of pr)) b
+        → (none, after) ≡ power-on built-products p b
     unfolding power-on stored
-    fresh-one p l after e f =
+    fresh-one p names pr e after f =
+        let its-number : p ≡ product-of pr = sym (names .its-number pr e) in
         ap (λ (x : List ℕ). (none, x)) f
-        ∙ sym (ap (λ (q : ℕ). power-on built-products q b) e ∙ rw (le-ltb (length b) store-length long, product-found l) refl)
+        ∙ sym (ap (λ (q : ℕ). power-on built-products q b) its-number ∙ rw (le-ltb (length b) store-length long, product-found pr) refl)

@@ -1,12 +1,11 @@
 -- Each entry's contract allows one outcome, one store and one reply buffer for an input.
 use Prim.Native.Nat.{ℕ}
 use mathlib.Core.Path.{_≡_, refl, sym, _∙_, ap}
-use mathlib.Core.Bool.{Bool}
 use mathlib.Core.Option.{Option, none, some}
 use mathlib.Core.List.{List}
 use Rattle.rules.specs.Products.{built-products}
 use Rattle.rules.specs.Reports as rules
-use Rattle.rules.specs.Run.{Call, message, attribute-report, alarm-report}
+use Rattle.rules.specs.Run.{Call}
 use Rattle.store.specs.Entries.{Left, enter, power-on}
 use Rattle.outcome.specs.declared.Outcome.{Outcome}
 use Rattle.outcome.specs.declared.Outcome.the-variants.{Answered, Quiet, Dropped}

@@ -1,81 +1,97 @@
 // The entries of the engine: for every input one outcome, one store and one reply buffer, those that the rules name.
+use class_tables::Named;
+use class_tables::Product;
+use class_tables::built;
 use outcome::Outcome;
 use outcome::Started;
-use soundness::END;
+use store::layout::MEMORY_AT;
+use store::layout::MEMORY_END;
+use store::layout::PRODUCT;
+use store::layout::REPLY;
+use store::layout::STORE;
 ghost use mathlib.Core.Path.{_≡_};
 ghost use Prim.Native.Nat.{_≤_};
 ghost use lib.ListN.{length};
-ghost use Rattle.rules.specs.Maps.{first-that-applies};
 ghost use Rattle.rules.specs.Run.{message, attribute-report, alarm-report, answer-anew, handle};
 ghost use Rattle.rules.specs.Products.{built-products};
 ghost use Rattle.store.specs.Entries.{enter, power-on};
-ghost use Rattle.frame.specs.Drops.{drop-code};
-ghost use Rattle.catalogue.specs.CatOf.{cat-of};
-ghost use Rattle.holding.specs.Held.{state-in, Sound};
+ghost use Rattle.class_tables.specs.Built.{cat-of};
+ghost use Rattle.sound_store.specs.Held.{state-in, Sound};
 ghost use Rattle.outcome.specs.Outcomes.{left-by, leaves, started-of};
-ghost use Rattle.engine.specs.Entering.{first-drops};
+ghost use Rattle.engine.specs.Entering.{Enters};
 
 // Answers a command that is no repeat, and remembers it.
-fn answer_anew(store: &mut [u8], large: bool, m: &[u8], reply: &mut [u8])
-    requires { ⌜ Sound large (now store) × (length (now m) ≡ 48) × (48 ≤ length (now reply)) ⌝ }
-    ensures { λ _. ⌜ left-by Outcome.Answered (now (store .exit)) (now (reply .exit)) ≡ leaves large (state-in large (now (store .entry))) (now (store .entry)) (now (reply .entry)) (answer-anew (cat-of large) (state-in large (now (store .entry))) (now (m .entry))) ⌝ }
+fn answer_anew(store: &mut [u8], product: Product, m: &[u8], reply: &mut [u8])
+    requires { ⌜ Sound product (now store) × (length (now m) ≡ 48) × (48 ≤ length (now reply)) ⌝ }
+    ensures { λ _. ⌜ left-by Outcome.Answered (now (store .exit)) (now (reply .exit)) ≡ leaves product (state-in product (now (store .entry))) (now (store .entry)) (now (reply .entry)) (answer-anew (cat-of product) (state-in product (now (store .entry))) (now (m .entry))) ⌝ }
 {
     let kind = m[2] % 32;
     let class = octets::number_at(m, 4);
     let number = octets::number_at(m, 6);
-    frame::begin(reply, octets::number_at(m, 0), 0x20 + kind, class, number);
-    commands::perform(
+    message_frame::begin(reply, octets::number_at(m, 0), 0x20 + kind, class, number);
+    command_dispatch::perform(
         store,
-        large,
+        product,
         kind,
         class,
         number,
         &m[8..40],
         &mut reply[8..40],
     );
-    memory::remember(store, m, reply);
+    remembered_command::remember(&mut store[MEMORY_AT..MEMORY_END], m, reply);
 }
 
 // What a message does to a sound store.
-fn take_message(store: &mut [u8], large: bool, m: &[u8], reply: &mut [u8]) -> Outcome
-    requires { ⌜ Sound large (now store) × (48 ≤ length (now reply)) ⌝ }
-    ensures { λ r. ⌜ left-by r (now (store .exit)) (now (reply .exit)) ≡ leaves large (state-in large (now (store .entry))) (now (store .entry)) (now (reply .entry)) (handle (cat-of large) (state-in large (now (store .entry))) (now (m .entry))) ⌝ }
+fn take_message(store: &mut [u8], product: Product, m: &[u8], reply: &mut [u8]) -> Outcome
+    requires { ⌜ Sound product (now store) × (48 ≤ length (now reply)) ⌝ }
+    ensures { λ r. ⌜ left-by r (now (store .exit)) (now (reply .exit)) ≡ leaves product (state-in product (now (store .entry))) (now (store .entry)) (now (reply .entry)) (handle (cat-of product) (state-in product (now (store .entry))) (now (m .entry))) ⌝ }
 {
-    let code = frame::message_drop(m);
+    let code = message_frame::message_drop(m);
     if code != 0 {
         return Outcome::Dropped(code);
     }
-    if memory::is_repeat(store, m) {
-        memory::recall(store, reply);
+    if remembered_command::is_repeat(&store[MEMORY_AT..MEMORY_END], m) {
+        remembered_command::recall(&store[MEMORY_AT..MEMORY_END], reply);
     } else {
-        answer_anew(store, large, m, reply);
+        answer_anew(store, product, m, reply);
     }
     Outcome::Answered
 }
 
-// The drops that come first in every call, 1 and 2, or 0 for none.
-fn first_drop(store: &[u8], room: usize) -> u8
-    ensures { λ r. ⌜ r ≡ drop-code (first-that-applies (first-drops room (now (store .entry)))) ⌝ }
+// What a call finds before anything else.
+pub enum Entry {
+    // room for a reply, and a sound store of this product
+    To(Product),
+    // a drop
+    Dropped(u8),
+}
+
+// What every call begins with: drops 1 and 2, and the product whose store it is.
+fn begin(store: &[u8], room: usize) -> Entry
+    ensures { λ r. ⌜ Enters room (now (store .entry)) r ⌝ }
 {
-    if room < 48 {
-        return 1;
+    if room < REPLY {
+        return Entry::Dropped(1);
     }
     if !soundness::store_ok(store) {
-        return 2;
+        return Entry::Dropped(2);
     }
-    0
+    let named = built::product_at(store[PRODUCT]);
+    match named {
+        Named::Is(product) => Entry::To(product),
+        Named::Nothing => Entry::Dropped(2),
+    }
 }
 
 // A message from the exchange.
 pub fn handle(store: &mut [u8], m: &[u8], reply: &mut [u8]) -> Outcome
     ensures { λ r. ⌜ left-by r (now (store .exit)) (now (reply .exit)) ≡ enter built-products (message (now (m .entry))) (now (store .entry)) (now (reply .entry)) ⌝ }
 {
-    let code = first_drop(store, reply.len());
-    if code != 0 {
-        return Outcome::Dropped(code);
+    let entry = begin(store, reply.len());
+    match entry {
+        Entry::To(product) => take_message(store, product, m, reply),
+        Entry::Dropped(code) => Outcome::Dropped(code),
     }
-    let large = store[0] == 2;
-    take_message(store, large, m, reply)
 }
 
 // A local report that an attribute has a new content.
@@ -89,12 +105,19 @@ pub fn report_attribute(
 ) -> Outcome
     ensures { λ r. ⌜ left-by r (now (store .exit)) (now (reply .exit)) ≡ enter built-products (attribute-report class number attribute (now (content .entry))) (now (store .entry)) (now (reply .entry)) ⌝ }
 {
-    let code = first_drop(store, reply.len());
-    if code != 0 {
-        return Outcome::Dropped(code);
+    let entry = begin(store, reply.len());
+    match entry {
+        Entry::To(product) => attribute_report::report_attribute(
+            store,
+            product,
+            class,
+            number,
+            attribute,
+            content,
+            reply,
+        ),
+        Entry::Dropped(code) => Outcome::Dropped(code),
     }
-    let large = store[0] == 2;
-    reporting::report_attribute(store, large, class, number, attribute, content, reply)
 }
 
 // A local report that an alarm is raised or cleared.
@@ -108,25 +131,34 @@ pub fn report_alarm(
 ) -> Outcome
     ensures { λ r. ⌜ left-by r (now (store .exit)) (now (reply .exit)) ≡ enter built-products (alarm-report class number alarm on) (now (store .entry)) (now (reply .entry)) ⌝ }
 {
-    let code = first_drop(store, reply.len());
-    if code != 0 {
-        return Outcome::Dropped(code);
+    let entry = begin(store, reply.len());
+    match entry {
+        Entry::To(product) => alarm_report::report_alarm(
+            store,
+            product,
+            class,
+            number,
+            alarm,
+            on,
+            reply,
+        ),
+        Entry::Dropped(code) => Outcome::Dropped(code),
     }
-    let large = store[0] == 2;
-    raising::report_alarm(store, large, class, number, alarm, on, reply)
 }
 
-// The fresh state of a product, 1 Small or 2 Large.
+// The fresh state of the product that a number names.
 pub fn power_on(store: &mut [u8], product: u8) -> Started
     ensures { λ r. ⌜ (started-of r, now (store .exit)) ≡ power-on built-products product (now (store .entry)) ⌝ }
 {
-    if store.len() < END {
+    if store.len() < STORE {
         return Started::Dropped(2);
     }
-    match product {
-        1 => resetting::write_fresh(store, false),
-        2 => resetting::write_fresh(store, true),
-        _ => return Started::Dropped(12),
+    let named = built::product_at(product);
+    match named {
+        Named::Is(p) => {
+            reset_command::write_fresh(store, p);
+            Started::Fresh
+        }
+        Named::Nothing => Started::Dropped(12),
     }
-    Started::Fresh
 }

@@ -9,8 +9,9 @@ use Rattle.rules.specs.Bytes.{byte}
 use Rattle.rules.specs.State.{State}
 use Rattle.rules.specs.Messages.{Answer, unless-refused}
 use Rattle.rules.proofs.Laws.{true-false}
-use Rattle.kept.proofs.Refusals.{NoneApplies, unless-refused-is, EachLine, first-has}
+use Rattle.legality.proofs.Refusals.{NoneApplies, unless-refused-is}
 use Rattle.extending.specs.Promise.{is-0-1-or-7}
+use Rattle.rules.proofs.MapLaws.{EachLine, first-has}
 
 pub none-applied : (s : State) (lines : List (Bool × List ℕ)) (a : Answer) → EachLine (λ r. is-0-1-or-7 (byte r 0) ≡ false) lines
     → is-0-1-or-7 (byte (unless-refused s lines a .1) 0) ≡ true → NoneApplies lines

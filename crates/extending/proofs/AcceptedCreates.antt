@@ -17,15 +17,15 @@ use Rattle.rules.specs.Extends.{Agree, added-carried, Extends}
 use Rattle.rules.proofs.Laws.{cases, never, both, every-find, has-among}
 use Rattle.rules.proofs.MapLaws.{some-eq, rising-keep, every-if-found}
 use Rattle.rules.proofs.ByteLaws.{keys-cut}
-use Rattle.kept.proofs.Contents.{Value}
-use Rattle.kept.proofs.NewContents.{attributes-in-order}
-use Rattle.kept.proofs.Refusals.{none-kept, empty-front}
-use Rattle.kept.proofs.Carried.{create-carries-legal}
-use Rattle.kept.proofs.Tables.{LegalLive}
+use Rattle.legality.proofs.Contents.{Value}
+use Rattle.legality.proofs.NewContents.{attributes-in-order}
+use Rattle.legality.proofs.Refusals.{none-kept, empty-front}
+use Rattle.legality.proofs.Carried.{create-carries-legal, carried-is-C}
+use Rattle.legality.proofs.Tables.{LegalLive}
 use Rattle.extending.specs.Matched.{MatchedContents, MatchedTable}
 use Rattle.extending.proofs.Found.{known-too, class-extends, automatic-held, companion-held, held-by-both}
 use Rattle.extending.proofs.Judged.{every-kept, contents-agree, legal-too}
-use Rattle.extending.proofs.Carried.{MatchedCarried, carried-is-C, in-added, clean-too, carried-match}
+use Rattle.extending.proofs.Carried.{MatchedCarried, in-added, clean-too, carried-match}
 
 both-empty : (l m : List ℕ) → empty l ≡ true → empty m ≡ true → empty (l ++ m) ≡ true
 both-empty [] m h g = g
@@ -86,14 +86,15 @@ module _ (first second : Catalogue) (wf : WellFormed first) (wf′ : WellFormed 
       let zero : replicate (size-of l n) 0 ≡ w = some-eq (sym (accepted-match .added-carried-zero n absent set-by-create) ∙ e) in
       let here : among n (added-carried k l) ≡ true = in-added first second wf wf′ ext c kn n absent set-by-create in
       rw (← zero) (class-extends first second wf wf′ ext c kn .added-accept-zero n here (fixed-contents k r) (fixed-contents l q) rules-agree
-      (holds first (s .table)) (holds second (z .table)) (held-by-both first second wf wf′ ext (s .table) (z .table) m h h′) (automatic-held second wf′ (z .table) h′) (companion-held second wf′ (z .table) h′) refl)
+      (holds first (s .table)) (holds second (z .table)) (held-by-both first second wf wf′ ext (s .table) (z .table) m h h′) (automatic-held second wf′ (z .table) h′)
+      (companion-held second wf′ (z .table) h′) refl)
 
   all-legal : (n : ℕ) (w : List ℕ) → find n q ≡ some w → legal-content (holds second (z .table)) l q n w ≡ true
   unfolding carried-by
   all-legal n w e =
       let here : among n (carried-numbers l) ≡ true =
       rw (← keys-cut (size-of l) (carried-numbers l) v, ← has-among n (cut (size-of l) (carried-numbers l) v), e) refl in
-      let set-by-create : attribute l n .C ≡ true = carried-is-C second wf′ c n (known-too first second wf wf′ ext c kn) here in
+      let set-by-create : attribute l n .C ≡ true = carried-is-C l (attributes-in-order second wf′ c (known-too first second wf wf′ ext c kn)) n here in
       cases (supported k n)
       (λ sup. legal-as-before n w sup (class-extends first second wf wf′ ext c kn .attributes-kept n sup .1 .same-C ∙ set-by-create)
       (sym (accepted-match .same-carried n sup) ∙ e))

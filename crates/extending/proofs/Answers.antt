@@ -9,16 +9,17 @@ use Rattle.rules.specs.Maps.{_and_, _or_, among, first-that-applies}
 use Rattle.rules.specs.Bytes.{byte, are-bytes}
 use Rattle.rules.specs.Catalogue.{Catalogue, class, known, ont-data}
 use Rattle.rules.specs.State.{State}
-use Rattle.rules.specs.Messages.{with-result, without-result, create-number, delete-number, set-number, get-number, reset-number, all-alarms-number, alarms-next-number, upload-number, upload-next-number, not-supported, unknown-class, Answer, unless-refused}
+use Rattle.rules.specs.Messages.{with-result, without-result, create-number, delete-number, set-number, get-number, reset-number, all-alarms-number, alarms-next-number}
+use Rattle.rules.specs.Messages.{upload-number, upload-next-number, not-supported, unknown-class, Answer, unless-refused}
 use Rattle.rules.specs.Commands.{create, delete, set, get, reset}
 use Rattle.rules.specs.Walks.{upload, upload-next, all-alarms, alarms-next}
 use Rattle.rules.specs.Run.{perform, first-results, answer}
 use Rattle.rules.specs.WellFormed.{WellFormed, created-by-Create}
 use Rattle.rules.specs.Extends.{Extends}
-use Rattle.rules.proofs.Laws.{_&_, cases, never, or-cases, true-false, or-left, all-among, eqb-eq}
+use Rattle.rules.proofs.Laws.{_&_, cases, never, true-false, or-left, all-among, each-among}
 use Rattle.rules.proofs.Lookups.{implied, class-says}
 use Rattle.rules.proofs.Standing.{class-2-known}
-use Rattle.kept.proofs.LegalStates.{LegalState}
+use Rattle.legality.proofs.LegalStates.{LegalState}
 use Rattle.extending.specs.Promise.{is-0-1-or-7}
 use Rattle.extending.specs.Matched.{MatchedState}
 use Rattle.extending.proofs.Found.{known-too, class-extends}
@@ -29,16 +30,6 @@ use Rattle.extending.proofs.Gets.{get-keeps, get-matched}
 use Rattle.extending.proofs.Resets.{reset-of-others, reset-matched}
 use Rattle.extending.proofs.Uploads.{next-keeps, upload-matched}
 use Rattle.extending.proofs.AlarmWalks.{Same, all-alarms-matched, alarms-next-matched}
-
--- what holds of each number of a list holds of a number that is among them
-abbrev EachOf : (ℕ → Type 0) → List ℕ → Type 0
-EachOf P [] = Unit {0}
-EachOf P (k ∷ l) = P k × EachOf P l
-
-each-of : (l : List ℕ) (P : ℕ → Type 0) → EachOf P l → (n : ℕ) → among n l ≡ true → P n
-unfolding among
-each-of [] P x n y = never y
-each-of (k ∷ l) P x n y = or-cases y (λ e. rw (eqb-eq n k e) (x .0)) (λ e. each-of l P (x .1) n e)
 
 -- ---- how a command whose reply has a result is answered
 
@@ -223,7 +214,7 @@ module _ (first second : Catalogue) (wf : WellFormed first) (wf′ : WellFormed 
     pub answer-matched : (n : ℕ) → IsSettled n → MatchedAnswer n
     unfolding among _or_
     answer-matched n = cases (among n with-result)
-        (each-of with-result (λ n. IsSettled n → MatchedAnswer n) (
+        (each-among (λ n. IsSettled n → MatchedAnswer n) with-result (
         (λ y. settled create-number (by-create (y refl)))
         & (λ y. settled delete-number (by-delete (y refl)))
         & (λ y. settled set-number (by-set (y refl)))
@@ -232,5 +223,5 @@ module _ (first second : Catalogue) (wf : WellFormed first) (wf′ : WellFormed 
         & tt
         ) n)
         (λ w. cases (among n without-result)
-        (each-of without-result (λ n. IsSettled n → MatchedAnswer n) ((λ y. by-all-alarms) & (λ y. by-alarms-next) & (λ y. by-upload) & (λ y. by-upload-next) & tt) n)
+        (each-among (λ n. IsSettled n → MatchedAnswer n) without-result ((λ y. by-all-alarms) & (λ y. by-alarms-next) & (λ y. by-upload) & (λ y. by-upload-next) & tt) n)
         (λ o y. if-built-by-none n w o))

@@ -2,25 +2,24 @@
 use Prim.Native.Nat.{ℕ, _+_}
 use native.Mathlib.Omega.{arith}
 use mathlib.Core.Path.{_≡_, refl, _∙_, ap}
-use mathlib.Core.Bool.{Bool, true, false, not}
+use mathlib.Core.Bool.{true, false, not}
 use mathlib.Core.Option.{Option, none, some}
-use mathlib.Core.List.{List, [], _∷_, _++_}
+use mathlib.Core.List.{List, _++_}
 use lib.ListN.{drop, replicate}
 use lib.Seq.{drop-drop}
-use lib.Dec.{eqb}
-use Rattle.rules.specs.Maps.{_and_, _or_, given, find, keep, among, all, those, empty}
+use Rattle.rules.specs.Maps.{_and_, given, find, among, all, empty}
 use Rattle.rules.specs.Masks.{total}
 use Rattle.rules.specs.Catalogue.{Class, Catalogue, class, known, attribute, supported, size-of, carried-numbers}
 use Rattle.rules.specs.State.{Contents}
 use Rattle.rules.specs.Commands.{cut, carried-by, not-zero}
 use Rattle.rules.specs.WellFormed.{WellFormed, carried-bytes, unkept-bytes}
 use Rattle.rules.specs.Extends.{added-carried, ClassExtends, Extends}
-use Rattle.rules.proofs.Laws.{cases, true-false, eqb-eq, find-some, has-among}
-use Rattle.rules.proofs.MapLaws.{found-kept, find-append}
-use Rattle.rules.proofs.Lookups.{found-attribute, C-supported}
+use Rattle.rules.proofs.Laws.{cases, true-false}
+use Rattle.rules.proofs.MapLaws.{find-append, among-those}
+use Rattle.rules.proofs.Lookups.{C-supported}
 use Rattle.rules.proofs.Standing.{all-imp, all-self}
-use Rattle.kept.proofs.NewContents.{attributes-in-order}
-use Rattle.kept.proofs.Carried.{C-in-carried}
+use Rattle.legality.proofs.NewContents.{attributes-in-order}
+use Rattle.legality.proofs.Carried.{C-in-carried, carried-is-C}
 use Rattle.extending.proofs.Found.{class-extends}
 use Rattle.extending.proofs.Judged.{same-cut}
 use Rattle.extending.proofs.Gets.{same-total}
@@ -30,26 +29,6 @@ use Rattle.extending.proofs.Cuts.{cut-append, total-append, cut-none, Z
 pub record MatchedCarried (k l : Class) (r q : Contents) : Type 0 where
   pub same-carried : (n : ℕ) → supported k n ≡ true → find n q ≡ find n r
   pub added-carried-zero : (n : ℕ) → supported k n ≡ false → attribute l n .C ≡ true → find n q ≡ some (replicate (size-of l n) 0)
-
-pub among-those : (p : ℕ → Bool) (n : ℕ) (l : List ℕ) → among n (those p l) ≡ (p n and among n l)
-unfolding among those _and_ _or_
-among-those p n [] = cases (p n) (λ t. rw t refl) (λ t. rw t refl)
-among-those p n (x ∷ l) =
-    let later : among n (those p l) ≡ (p n and among n l) = among-those p n l in
-    cases (eqb n x)
-    (λ e. let here : p n ≡ p x = ap p (eqb-eq n x e) in
-    cases (p x) (λ t. rw (t, e, here, t) refl) (λ t. rw (t, e, later, here, t) refl))
-    (λ e. cases (p x) (λ t. rw (t, e) later) (λ t. rw (t, e) later))
-
--- every number that a Create carries is of a set-by-create attribute
-pub carried-is-C : (cat : Catalogue) (wf : WellFormed cat) (c n : ℕ) → known cat c ≡ true → among n (carried-numbers (class cat c)) ≡ true
-    → attribute (class cat c) n .C ≡ true
-unfolding carried-numbers
-carried-is-C cat wf c n kn h =
-    let m = keep (λ n a. a .C) (class cat c .attributes) in
-    let f = find-some n m (has-among n m ∙ h) in
-    let g = found-kept (λ n a. a .C) (class cat c .attributes) (attributes-in-order cat wf c kn) n (f .0) (f .1) in
-    rw (found-attribute (class cat c) n (f .0) (g .0)) (g .1)
 
 module _ (first second : Catalogue) (wf : WellFormed first) (wf′ : WellFormed second) (ext : Extends first second) (c : ℕ) (kn : known first c ≡ true) where
   abbrev k : Class
@@ -62,7 +41,7 @@ module _ (first second : Catalogue) (wf : WellFormed first) (wf′ : WellFormed 
   kept = class-extends first second wf wf′ ext c kn
 
   carried-supported : (n : ℕ) → among n (carried-numbers k) ≡ true → supported k n ≡ true
-  carried-supported n y = C-supported k n (carried-is-C first wf c n kn y)
+  carried-supported n y = C-supported k n (carried-is-C k (attributes-in-order first wf c kn) n y)
 
   all-carried-supported : all (supported k) (carried-numbers k) ≡ true
   all-carried-supported = all-imp (λ n. among n (carried-numbers k)) (supported k) carried-supported (carried-numbers k) (all-self (carried-numbers k))

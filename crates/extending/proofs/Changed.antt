@@ -16,8 +16,8 @@ use Rattle.rules.proofs.Laws.{cases, true-false, or-left, none-or, eqb-eq, amon
 use Rattle.rules.proofs.MapLaws.{some-eq, none-some}
 use Rattle.rules.proofs.Lookups.{W-supported}
 use Rattle.rules.proofs.Standing.{class-2-known}
-use Rattle.kept.proofs.Tables.{LegalLive}
-use Rattle.kept.proofs.Contents.{content-each}
+use Rattle.legality.proofs.Tables.{LegalLive}
+use Rattle.legality.proofs.Contents.{content-each}
 use Rattle.extending.specs.Matched.{BothMatch, MatchedContents, MatchedEntry, MatchedRows, MatchedTable, Untouched, MatchedState}
 use Rattle.extending.proofs.Found.{same-leader, live-apart, matched-instance, automatic-held}
 
@@ -183,7 +183,6 @@ module _ (first second : Catalogue) (wf : WellFormed first) (wf′ : WellFormed 
 
   pub with-tables-match : (s z : State) → MatchedState first second s z → (t u : Table) → MatchedTable first second t u → Untouched first second t
       → MatchedState first second (with-table t s) (with-table u z)
-  unfolding with-table
   with-tables-match s z m t u match old = record {
     tables = match;
     untouched = old;

@@ -6,7 +6,8 @@ use mathlib.Core.List.{List, [], _∷_, _++_, append-assoc}
 use lib.ListN.{replicate, length-replicate}
 use lib.Dec.{ltb}
 use Rattle.rules.specs.Maps.{_and_, among, those}
-use Rattle.rules.specs.Catalogue.{Verdict, fine, Attribute, Creation, created, automatic, comes-with, Class, Catalogue, class, known, attribute, supported, size-of, carried-numbers, is-fixed, is-created, automatic-numbers, lead, leader}
+use Rattle.rules.specs.Catalogue.{Verdict, fine, Attribute, Creation, created, automatic, comes-with, Class, Catalogue, class, known, attribute, supported, size-of}
+use Rattle.rules.specs.Catalogue.{carried-numbers, is-fixed, is-created, automatic-numbers, lead, leader}
 use Rattle.rules.specs.Legal.{passes, may-be-there, there-or-gone}
 use Rattle.rules.specs.WellFormed.{WellFormed, leader-is-created, comes-with-a-created-one}
 use Rattle.rules.specs.Extends.{Allows, Agree, AttributeExtends, SameCreation, added-carried, ClassExtends, Extends}
@@ -17,7 +18,10 @@ use Rattle.rules.proofs.Standing.{all-imp}
 use Rattle.extending.proofs.Found.{known-too, class-extends, same-leader, listed-known}
 use Rattle.extending.proofs.Judged.{fixed-before}
 use Rattle.extending.proofs.Fresh.{listed-too}
-use Rattle.extending.proofs.Carried.{among-those, carried-is-C, in-added}
+use Rattle.rules.proofs.MapLaws.{among-those}
+use Rattle.legality.proofs.Carried.{carried-is-C}
+use Rattle.extending.proofs.Carried.{in-added}
+use Rattle.legality.proofs.NewContents.{attributes-in-order}
 
 -- ---- how instances come about
 
@@ -232,7 +236,7 @@ module _ (first second third : Catalogue) (wf : WellFormed first) (wf′ : WellF
       unfolding added-carried
       accepts-zero =
           let x = both (rw (among-those (λ n. not (supported k n)) n (carried-numbers m)) at here) in
-          let set-by-create : attribute m n .C ≡ true = carried-is-C third wf″ c n kn″ (x .1) in
+          let set-by-create : attribute m n .C ≡ true = carried-is-C m (attributes-in-order third wf″ c kn″) n (x .1) in
           cases (supported l n)
           (λ sup. newer-accepts-zero (not-true (x .0)) sup set-by-create)
           (λ absent. newest-accepts-zero absent set-by-create)
@@ -240,7 +244,8 @@ module _ (first second third : Catalogue) (wf : WellFormed first) (wf′ : WellF
     class-composes : ClassExtends first third k m
     class-composes = record {
       same-creation = creation-composes (k .creation) (l .creation) (m .creation) (kept .same-creation) (kept′ .same-creation);
-      commands-kept = all-imp (λ n. among n (l .commands)) (λ n. among n (m .commands)) (all-among (λ n. among n (m .commands)) (l .commands) (kept′ .commands-kept)) (k .commands) (kept .commands-kept);
+      commands-kept = all-imp (λ n. among n (l .commands)) (λ n. among n (m .commands)) (all-among (λ n. among n (m .commands)) (l .commands) (kept′ .commands-kept)) (k .commands)
+          (kept .commands-kept);
       same-alarms = λ n. kept .same-alarms n ∙ kept′ .same-alarms n;
       attributes-kept = attributes-compose;
       creates-carry-equally = kept .creates-carry-equally ∙ kept′ .creates-carry-equally;

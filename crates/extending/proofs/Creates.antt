@@ -16,9 +16,9 @@ use Rattle.rules.specs.WellFormed.{WellFormed}
 use Rattle.rules.specs.Extends.{Extends}
 use Rattle.rules.proofs.Laws.{cases, never, leb-lt}
 use Rattle.rules.proofs.Standing.{key-class}
-use Rattle.kept.proofs.Tables.{LegalEntry, LegalLive, new-entry-legal, create-legal}
-use Rattle.kept.proofs.Carried.{create-carries-legal}
-use Rattle.kept.proofs.LegalStates.{LegalState}
+use Rattle.legality.proofs.Tables.{LegalEntry, LegalLive, new-entry-legal, create-legal}
+use Rattle.legality.proofs.Carried.{create-carries-legal}
+use Rattle.legality.proofs.LegalStates.{LegalState}
 use Rattle.extending.specs.Promise.{is-0-1-or-7}
 use Rattle.extending.specs.Matched.{MatchedEntry, MatchedRows, MatchedTable, MatchedState}
 use Rattle.extending.proofs.Found.{same-created, same-row-count, held-too, not-held-either}

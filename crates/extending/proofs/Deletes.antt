@@ -13,9 +13,9 @@ use Rattle.rules.specs.Commands.{with-created, goes-with, without, delete-resul
 use Rattle.rules.specs.WellFormed.{WellFormed}
 use Rattle.rules.specs.Extends.{Extends}
 use Rattle.rules.proofs.Laws.{cases, not-false}
-use Rattle.kept.proofs.Tables.{delete-legal}
-use Rattle.kept.proofs.LegalStates.{LegalState}
-use Rattle.kept.proofs.Refusals.{NoneApplies}
+use Rattle.legality.proofs.Tables.{delete-legal}
+use Rattle.legality.proofs.LegalStates.{LegalState}
+use Rattle.legality.proofs.Refusals.{NoneApplies}
 use Rattle.extending.specs.Promise.{is-0-1-or-7}
 use Rattle.extending.specs.Matched.{MatchedRows, MatchedTable, MatchedState}
 use Rattle.extending.proofs.Found.{same-leader, held-too}

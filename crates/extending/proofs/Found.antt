@@ -17,8 +17,8 @@ use Rattle.rules.proofs.MapLaws.{some-eq, none-some, among-back}
 use Rattle.rules.proofs.Lookups.{unknown-class, known-class, class-says, created-known, leads-itself}
 use Rattle.rules.proofs.Families.{family-has}
 use Rattle.rules.proofs.Standing.{standing, standing-not-created, standing-leads, automatic-among, key-class}
-use Rattle.kept.proofs.Tables.{LegalTable, LegalLive}
-use Rattle.kept.proofs.Holds.{There, holds-there, there-holds, found-in, find-in-created, find-in-automatic, entry-legal, is-created-one, created-alone, holds-known}
+use Rattle.legality.proofs.Tables.{LegalTable, LegalLive}
+use Rattle.legality.proofs.Holds.{There, holds-there, there-holds, found-in, find-in-created, find-in-automatic, entry-legal, is-created-one, created-alone, holds-known}
 use Rattle.extending.specs.Matched.{BothMatch, MatchedContents, MatchedEntry, MatchedRows, MatchedTable}
 
 pub both-there : {A B : Type 0} {a : A} (R : A → B → Type 0) (o : Option B) → BothMatch R (some a) o → (b : B) × (o ≡ some b) × R a b
@@ -236,4 +236,5 @@ module _ (first second : Catalogue) (wf : WellFormed first) (wf′ : WellFormed 
             let f : find (key c i) (entries u) ≡ some (th .its-entry) = rw led′ at (th .found) in
             found-in (key c i) (u .automatic) (u .created) (th .its-entry) f
             (λ x. none-some (sym (created-alone second wf′ u h′ (key c i) cr′) ∙ x))
-            (λ x g. created-held first wf t h c i cr lt (rw (has-among (key c i) (t .created), ← same-row-keys (t .created) (u .created) (m .created-match), ← has-among (key c i) (u .created), g) refl))
+            (λ x g. created-held first wf t h c i cr lt
+            (rw (has-among (key c i) (t .created), ← same-row-keys (t .created) (u .created) (m .created-match), ← has-among (key c i) (u .created), g) refl))

@@ -17,8 +17,8 @@ use Rattle.rules.proofs.Laws.{cases, never, or-cases, or-left, or-right, true-f
 use Rattle.rules.proofs.MapLaws.{some-eq, none-some, among-past}
 use Rattle.rules.proofs.Lookups.{known-class}
 use Rattle.rules.proofs.Standing.{stands, automatic-keys-stand, standing, standing-not-created, automatic-among, key-back}
-use Rattle.kept.proofs.NewContents.{C-is-created}
-use Rattle.kept.proofs.ResetContents.{nothing-carried}
+use Rattle.legality.proofs.NewContents.{C-is-created}
+use Rattle.legality.proofs.ResetContents.{nothing-carried}
 use Rattle.extending.specs.Matched.{MatchedEntry, MatchedTable, Untouched, MatchedState}
 use Rattle.extending.proofs.NewEntries.{found-start, find-in-new, in-new, new-entries-match}
 use Rattle.extending.proofs.Found.{known-too, class-extends}

@@ -1,7 +1,7 @@
 -- A Get that the first product answers with contents, the second answers with the same.
 use Prim.Native.Nat.{ℕ}
 use mathlib.Core.Path.{_≡_, refl}
-use mathlib.Core.Bool.{Bool, true, false, not}
+use mathlib.Core.Bool.{Bool, true, false}
 use mathlib.Core.Option.{some}
 use mathlib.Core.List.{List, [], _∷_}
 use Rattle.rules.specs.Maps.{_or_, among, all, empty, those, first-that-applies}
@@ -13,22 +13,19 @@ use Rattle.rules.specs.Messages.{unless-refused}
 use Rattle.rules.specs.Commands.{asked, unsupported, get-results, get}
 use Rattle.rules.specs.WellFormed.{WellFormed}
 use Rattle.rules.specs.Extends.{Extends}
-use Rattle.rules.proofs.Laws.{true-false, not-true, not-false, both}
+use Rattle.rules.proofs.Laws.{true-false, not-false, both}
 use Rattle.rules.proofs.Standing.{all-imp}
-use Rattle.kept.proofs.LegalStates.{LegalState}
-use Rattle.kept.proofs.Refusals.{unless-refused-is, first-has, none-of-those}
+use Rattle.legality.proofs.LegalStates.{LegalState}
+use Rattle.legality.proofs.Refusals.{unless-refused-is, all-supported}
 use Rattle.extending.specs.Promise.{is-0-1-or-7}
 use Rattle.extending.specs.Matched.{MatchedState}
 use Rattle.extending.proofs.Found.{class-extends, live-apart, held-too}
 use Rattle.extending.proofs.Readings.{same-values}
+use Rattle.rules.proofs.MapLaws.{first-has}
 
 -- ---- what a Get and a Set name
 
--- all of them are supported if none is unsupported, and the other way round
-pub all-supported : (k : Class) (l : List ℕ) → empty (unsupported k l) ≡ true → all (supported k) l ≡ true
-unfolding unsupported
-all-supported k l h = all-imp (λ n. not (not (supported k n))) (supported k) (λ n y. not-false (not-true y)) l (none-of-those (λ n. not (supported k n)) l h)
-
+-- if all of them are supported, none is unsupported
 pub none-unsupported : (k : Class) (l : List ℕ) → all (supported k) l ≡ true → empty (unsupported k l) ≡ true
 unfolding unsupported those all
 none-unsupported k [] h = refl

@@ -12,7 +12,8 @@ use Rattle.rules.proofs.Laws.{cases, never, not-true, both}
 use Rattle.rules.proofs.Lookups.{C-supported}
 use Rattle.rules.proofs.Verdicts.{passes-later}
 use Rattle.rules.proofs.Standing.{all-imp, all-self}
-use Rattle.extending.proofs.Carried.{carried-is-C}
+use Rattle.legality.proofs.Carried.{carried-is-C}
+use Rattle.legality.proofs.NewContents.{attributes-in-order}
 
 same-creation-as-itself : (a : Creation) → SameCreation a a
 same-creation-as-itself created = tt
@@ -50,7 +51,7 @@ module _ (cat : Catalogue) (wf : WellFormed cat) (c : ℕ) (kn : known cat c ≡
   nothing-added =
       let k : Class = class cat c in
       those-none (λ n. not (supported k n)) (carried-numbers k) (all-imp (λ n. among n (carried-numbers k)) (λ n. not (not (supported k n)))
-      (λ n here. ap (λ (b : Bool). not (not b)) (C-supported k n (carried-is-C cat wf c n kn here))) (carried-numbers k) (all-self (carried-numbers k)))
+      (λ n here. ap (λ (b : Bool). not (not b)) (C-supported k n (carried-is-C k (attributes-in-order cat wf c kn) n here))) (carried-numbers k) (all-self (carried-numbers k)))
 
   class-extends-itself : ClassExtends cat cat (class cat c) (class cat c)
   unfolding among

@@ -17,8 +17,8 @@ use Rattle.rules.specs.Extends.{Agree, AttributeExtends, Extends}
 use Rattle.rules.proofs.Laws.{cases, true-false, not-true, false-not, both, and-true, eqb-eq, every-imp}
 use Rattle.rules.proofs.MapLaws.{every-keys}
 use Rattle.rules.proofs.ByteLaws.{keys-cut, sized-cut, bytes-cut}
-use Rattle.kept.proofs.Tables.{LegalLive}
-use Rattle.kept.proofs.Refusals.{none-kept}
+use Rattle.legality.proofs.Tables.{LegalLive}
+use Rattle.legality.proofs.Refusals.{none-kept}
 use Rattle.extending.specs.Matched.{MatchedContents, MatchedTable}
 use Rattle.extending.proofs.Found.{class-extends, automatic-held, companion-held, held-by-both}
 

@@ -8,7 +8,7 @@ use mathlib.Core.List.{List, []}
 use lib.ListN.{length, take, drop, length-drop}
 use lib.Seq.{length-take-le, getD-take}
 use Rattle.rules.specs.Maps.{given, same, first-that-applies}
-use Rattle.rules.specs.Bytes.{byte, two, are-bytes}
+use Rattle.rules.specs.Bytes.{byte, are-bytes}
 use Rattle.rules.specs.Catalogue.{Catalogue}
 use Rattle.rules.specs.State.{Memory, State}
 use Rattle.rules.specs.Messages.{message-number, class-in, instance-in, contents-in, message-drops, reply-to, Answer}
@@ -20,10 +20,10 @@ use Rattle.rules.proofs.Laws.{cases, never, not-false, same-eq, eqb-eq}
 use Rattle.rules.proofs.MapLaws.{none-some}
 use Rattle.rules.proofs.Lookups.{implied}
 use Rattle.rules.proofs.ByteLaws.{bytes-take, bytes-drop, two-small}
-use Rattle.kept.proofs.Outcomes.{drop-of, sent}
-use Rattle.kept.proofs.Refusals.{none-applies}
-use Rattle.kept.proofs.ReplyBytes.{the-result-is-byte-8}
-use Rattle.kept.proofs.LegalStates.{LegalState}
+use Rattle.legality.proofs.Outcomes.{drop-of, sent}
+use Rattle.legality.proofs.Refusals.{none-applies}
+use Rattle.legality.proofs.ReplyBytes.{the-result-is-byte-8}
+use Rattle.legality.proofs.LegalStates.{LegalState}
 use Rattle.extending.specs.Promise.{answered-with-0-1-or-7, must-be-the-same, SameOutcome}
 use Rattle.extending.specs.Matched.{BothMatch, MatchedMemory, MatchedState}
 use Rattle.extending.proofs.Answers.{answer-matched}

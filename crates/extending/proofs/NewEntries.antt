@@ -7,7 +7,8 @@ use mathlib.Core.List.{List}
 use lib.ListN.{replicate}
 use lib.Dec.{eqb}
 use Rattle.rules.specs.Maps.{Map, given, find, keys, keep, rising}
-use Rattle.rules.specs.Catalogue.{constant, copied, Source, stored, of-creator, count-of, Attribute, Catalogue, class, known, attribute, supported, size-of, is-stored, lead, leader, family}
+use Rattle.rules.specs.Catalogue.{constant, copied, Source, stored, of-creator, count-of, Attribute, Catalogue, class, known, attribute, supported, size-of, is-stored, lead}
+use Rattle.rules.specs.Catalogue.{leader, family}
 use Rattle.rules.specs.State.{Contents, content}
 use Rattle.rules.specs.Commands.{first-content, new-contents, new-entry}
 use Rattle.rules.specs.WellFormed.{WellFormed, FirstIsLegal}
@@ -16,8 +17,8 @@ use Rattle.rules.proofs.Laws.{cases, true-false, both, eqb-eq, find-each, has-a
 use Rattle.rules.proofs.MapLaws.{some-eq, none-some, found-kept, find-kept}
 use Rattle.rules.proofs.Lookups.{C-supported, known-class, found-attribute, known-attribute}
 use Rattle.rules.proofs.Families.{in-family}
-use Rattle.kept.proofs.NewContents.{C-is-stored, C-leads, start, attributes-in-order}
-use Rattle.kept.proofs.Holds.{has-each}
+use Rattle.legality.proofs.NewContents.{C-is-stored, C-leads, start, attributes-in-order}
+use Rattle.legality.proofs.Holds.{has-each}
 use Rattle.extending.specs.Matched.{MatchedContents, MatchedEntry}
 use Rattle.extending.proofs.Found.{known-too, class-extends, same-leader}
 

@@ -5,14 +5,15 @@ use mathlib.Core.Bool.{true}
 use mathlib.Core.Option.{Option, none, some}
 use mathlib.Core.List.{List, [], _∷_}
 use Rattle.rules.specs.Maps.{Map, given, find, all}
-use Rattle.rules.specs.Catalogue.{Source, stored, of-creator, count-of, Creation, created, automatic, comes-with, Class, Catalogue, class, known, attribute, supported, lead, leader, key}
+use Rattle.rules.specs.Catalogue.{Source, stored, of-creator, count-of, Creation, created, automatic, comes-with, Class, Catalogue, class, known, attribute, supported, lead}
+use Rattle.rules.specs.Catalogue.{leader, key}
 use Rattle.rules.specs.State.{Contents, Entry, Table, entries, entry, holds, contents, content, how-many-name, read-from, read}
 use Rattle.rules.specs.Commands.{values}
 use Rattle.rules.specs.WellFormed.{WellFormed, leader-is-created, comes-with-a-created-one, readable-from, read-in-one-of-two-ways}
 use Rattle.rules.specs.Extends.{Extends}
 use Rattle.rules.proofs.Laws.{both}
 use Rattle.rules.proofs.Lookups.{class-says, created-known, attribute-says, leads-itself}
-use Rattle.kept.proofs.Holds.{There, holds-there}
+use Rattle.legality.proofs.Holds.{There, holds-there}
 use Rattle.extending.specs.Matched.{BothMatch, MatchedContents, MatchedRows, MatchedTable}
 use Rattle.extending.proofs.Found.{class-extends, same-leader, leader-known, Apart, matched-entry}
 

@@ -8,27 +8,21 @@ use lib.ListN.{length, getD}
 use lib.Dec.{eqb}
 use Rattle.rules.specs.Maps.{_and_, _or_, Map, find, among, first-that-applies}
 use Rattle.rules.specs.Bytes.{are-bytes}
-use Rattle.rules.specs.Catalogue.{Verdict, fine, bad, asks, Catalogue, class, attribute, supported, size-of, key}
+use Rattle.rules.specs.Catalogue.{Catalogue, class, attribute, supported, size-of, key}
 use Rattle.rules.specs.State.{Contents, Alarms, State, holds, contents, content, alarms-of, overwrite, change, with-table}
 use Rattle.rules.specs.Legal.{fixed-contents, passes, legal-content}
 use Rattle.rules.specs.Reports.{unless-dropped, attribute-drops, report-attribute, alarm-drops, turned, report-alarm}
-use Rattle.rules.specs.WellFormed.{WellFormed, asks-nothing}
+use Rattle.rules.specs.WellFormed.{WellFormed}
 use Rattle.rules.specs.Extends.{Extends}
-use Rattle.rules.proofs.Laws.{cases, never, both, or-right, eqb-eq}
+use Rattle.rules.proofs.Laws.{cases, both, or-right, eqb-eq}
 use Rattle.rules.proofs.MapLaws.{none-some}
 use Rattle.rules.proofs.Lookups.{supported-known, L-supported}
-use Rattle.kept.proofs.Holds.{holds-known}
-use Rattle.kept.proofs.LegalStates.{LegalState}
+use Rattle.legality.proofs.Holds.{holds-known}
+use Rattle.legality.proofs.LegalStates.{LegalState}
 use Rattle.extending.specs.Matched.{MatchedContents, MatchedState}
 use Rattle.extending.proofs.Found.{class-extends, live-apart, matched-instance}
 use Rattle.extending.proofs.Changed.{changed-match, overwritten-match, untouched-changed, with-tables-match}
-
--- a verdict that asks for no instance is the same wherever it is asked
-passes-anywhere : (there there′ : ℕ → ℕ → Bool) (v : Verdict) → asks-nothing v ≡ true → passes there v ≡ passes there′ v
-unfolding passes
-passes-anywhere there there′ fine a = refl
-passes-anywhere there there′ bad a = refl
-passes-anywhere there there′ (asks c i) a = never a
+use Rattle.legality.proofs.Contents.{passes-anywhere}
 
 -- an L attribute's content is legal or not by itself
 legal-alone : (cat : Catalogue) → WellFormed cat → (c n : ℕ) (v : List ℕ) → attribute (class cat c) n .L ≡ true

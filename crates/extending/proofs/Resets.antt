@@ -13,10 +13,10 @@ use Rattle.rules.specs.WellFormed.{WellFormed, never-W-and-L, reset-of-class-2-
 use Rattle.rules.specs.Extends.{Extends}
 use Rattle.rules.proofs.Laws.{cases, never, true-false, not-true, both, and-true, bool-eq, eqb-eq, find-each}
 use Rattle.rules.proofs.Lookups.{implied, unknown-class, class-says, supported-known, attribute-says}
-use Rattle.kept.proofs.Tables.{LegalLive}
-use Rattle.kept.proofs.Contents.{content-each}
-use Rattle.kept.proofs.Holds.{holds-known}
-use Rattle.kept.proofs.LegalStates.{LegalState}
+use Rattle.legality.proofs.Tables.{LegalLive}
+use Rattle.legality.proofs.Contents.{content-each}
+use Rattle.legality.proofs.Holds.{holds-known}
+use Rattle.legality.proofs.LegalStates.{LegalState}
 use Rattle.extending.specs.Matched.{BothMatch, MatchedContents, MatchedEntry, MatchedTable, Untouched, MatchedState}
 use Rattle.extending.proofs.Found.{class-extends, same-leader, same-created, leader-known, held-too, automatic-held}
 use Rattle.extending.proofs.SameAlarms.{same-alarms-kept}

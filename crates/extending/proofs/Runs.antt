@@ -4,7 +4,7 @@ use mathlib.Core.Path.{_≡_}
 use mathlib.Core.Bool.{true}
 use mathlib.Core.Option.{Option, none, some}
 use mathlib.Core.List.{List, [], _∷_}
-use Rattle.rules.specs.Maps.{_and_, given, first-that-applies}
+use Rattle.rules.specs.Maps.{given, first-that-applies}
 use Rattle.rules.specs.Catalogue.{Catalogue}
 use Rattle.rules.specs.State.{State}
 use Rattle.rules.specs.Reports.{dropped, unless-dropped}
@@ -12,8 +12,8 @@ use Rattle.rules.specs.Run.{Call, message, attribute-report, alarm-report, Inpu
 use Rattle.rules.specs.WellFormed.{WellFormed}
 use Rattle.rules.specs.Extends.{Extends, names-what-it-has}
 use Rattle.rules.proofs.Laws.{both}
-use Rattle.kept.proofs.LegalStates.{LegalState, open-state}
-use Rattle.kept.proofs.Kept.{OfBytes, AllOfBytes, step-fine, the-fresh-state-is-legal}
+use Rattle.legality.proofs.LegalStates.{LegalState, open-state}
+use Rattle.legality.proofs.Kept.{OfBytes, AllOfBytes, step-fine, the-fresh-state-is-legal}
 use Rattle.extending.specs.Promise.{answered-with-0-1-or-7, within-the-promise, SameRun}
 use Rattle.extending.specs.Matched.{MatchedState}
 use Rattle.extending.proofs.Fresh.{fresh-matched}

@@ -10,9 +10,9 @@ use Rattle.rules.specs.Legal.{legal-bitmaps}
 use Rattle.rules.specs.WellFormed.{WellFormed}
 use Rattle.rules.proofs.Laws.{both}
 use Rattle.rules.proofs.MapLaws.{Each, each-of-every, each-imp}
-use Rattle.kept.proofs.Holds.{holds-known}
-use Rattle.kept.proofs.AlarmsKept.{bitmap-test}
-use Rattle.kept.proofs.LegalStates.{LegalState}
+use Rattle.legality.proofs.Holds.{holds-known}
+use Rattle.legality.proofs.AlarmsKept.{bitmap-test}
+use Rattle.legality.proofs.LegalStates.{LegalState}
 
 -- two tests that say the same of every entry keep the same entries
 keep-the-same : {A : Type 0} (p q : ℕ → A → Bool) (m : Map A) → Each (λ k a. q k a ≡ p k a) m → keep q m ≡ keep p m

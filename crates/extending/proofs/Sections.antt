@@ -14,7 +14,8 @@ use Rattle.rules.specs.Catalogue.{Class, Catalogue, class, known, supported, si
 use Rattle.rules.specs.State.{Table, class-of, number-of, entries}
 use Rattle.rules.specs.Walks.{sections-from, sections-of, Section, instances-of, sections}
 use Rattle.rules.specs.WellFormed.{WellFormed}
-use Rattle.rules.proofs.Laws.{cases, never, both, and-true, or-cases, or-left, or-right, false-or, bool-eq, eqb-true, eqb-false, eqb-eq, eqb-ne, ltb-lt, lt-ltb, le-leb, all-among, has-among}
+use Rattle.rules.proofs.Laws.{cases, never, both, and-true, or-cases, or-left, or-right, false-or, bool-eq, eqb-true, eqb-false, eqb-eq, eqb-ne, ltb-lt, lt-ltb, le-leb, all-among}
+use Rattle.rules.proofs.Laws.{has-among}
 use Rattle.rules.proofs.MapLaws.{some-eq, none-some, Each, each-imp}
 use Rattle.rules.proofs.Lookups.{found-class, known-class}
 use Rattle.rules.proofs.Families.{classes-found}

@@ -20,11 +20,11 @@ use Rattle.rules.proofs.Laws.{cases, never, not-false, both, and-true, or-left,
 use Rattle.rules.proofs.Lookups.{W-supported}
 use Rattle.rules.proofs.ByteLaws.{keys-cut, bytes-drop}
 use Rattle.rules.proofs.Standing.{all-imp}
-use Rattle.kept.proofs.Tables.{LegalLive}
-use Rattle.kept.proofs.LegalStates.{LegalState}
-use Rattle.kept.proofs.Refusals.{NoneApplies}
-use Rattle.kept.proofs.Carried.{set-carries-legal}
-use Rattle.kept.proofs.Written.{set-legal}
+use Rattle.legality.proofs.Tables.{LegalLive}
+use Rattle.legality.proofs.LegalStates.{LegalState}
+use Rattle.legality.proofs.Refusals.{NoneApplies}
+use Rattle.legality.proofs.Carried.{set-carries-legal}
+use Rattle.legality.proofs.Written.{set-legal}
 use Rattle.extending.specs.Promise.{is-0-1-or-7}
 use Rattle.extending.specs.Matched.{MatchedContents, MatchedTable, MatchedState, Untouched}
 use Rattle.extending.proofs.Found.{class-extends, live-apart, matched-instance}

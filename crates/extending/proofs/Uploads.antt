@@ -14,8 +14,8 @@ use Rattle.rules.specs.WellFormed.{WellFormed}
 use Rattle.rules.specs.Extends.{Extends}
 use Rattle.rules.proofs.Laws.{cases, true-false, eqb-eq, find-some}
 use Rattle.rules.proofs.MapLaws.{none-some, find-kept}
-use Rattle.kept.proofs.Tables.{LegalTable, open-table}
-use Rattle.kept.proofs.LegalStates.{LegalState}
+use Rattle.legality.proofs.Tables.{LegalTable, open-table}
+use Rattle.legality.proofs.LegalStates.{LegalState}
 use Rattle.extending.specs.Promise.{SameUpload, SameUploads}
 use Rattle.extending.specs.Matched.{MatchedTable, MatchedState}
 use Rattle.extending.proofs.Found.{both-there, known-too, class-extends, same-leader, frozen-apart, matched-entry}

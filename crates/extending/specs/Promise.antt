@@ -9,7 +9,8 @@ use Rattle.rules.specs.Maps.{_and_, _or_, among}
 use Rattle.rules.specs.Bytes.{byte}
 use Rattle.rules.specs.Catalogue.{Catalogue}
 use Rattle.rules.specs.State.{Table, State, read}
-use Rattle.rules.specs.Messages.{message-number, without-result, create-number, delete-number, set-number, all-alarms-number, alarms-next-number, done, no-place, instance-exists}
+use Rattle.rules.specs.Messages.{message-number, without-result, create-number, delete-number, set-number, all-alarms-number}
+use Rattle.rules.specs.Messages.{alarms-next-number, done, no-place, instance-exists}
 use Rattle.rules.specs.Walks.{Section, sections}
 use Rattle.rules.specs.Reports.{Outcome, dropped, quiet, answered}
 use Rattle.rules.specs.WellFormed.{implies}

@@ -37,7 +37,7 @@ fn start_number(o: Started) -> u8
 pub extern "C" fn gwz_store_size() -> usize
     ensures { λ r. ⌜ r ≡ store-length ⌝ }
 {
-    soundness::END
+    store::layout::STORE
 }
 
 // Writes the fresh state of a product.

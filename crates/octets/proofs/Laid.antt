@@ -1,16 +1,17 @@
 -- Bytes laid over others: what stands before them, in their place and behind them, and what is laid over twice.
 use Prim.Native.Nat.{ℕ, _+_, _-_, _≤_, _<_}
-use native.Mathlib.Nat.{add-assoc, add-zero}
+use native.Mathlib.Nat.{add-assoc, add-zero, zero-add}
 use native.Mathlib.Omega.{arith}
 use mathlib.Core.Path.{_≡_, refl, sym, _∙_, ap}
 use mathlib.Core.Bool.{true}
-use mathlib.Core.List.{List, [], _++_, append-assoc, append-nil}
-use lib.ListN.{length, take, drop, getD, length-append, length-take, length-drop, take-append-drop, drop-of-length-le, List·getD-append}
-use lib.Seq.{take-at, drop-at, take-append-le, drop-append-le, take-take, take-add, drop-drop, getD-take, getD-drop, length-take-le}
+use mathlib.Core.List.{List, [], _++_, append-assoc, append-nil, _∷_}
+use lib.ListN.{length, take, drop, getD, replicate, length-append, length-replicate, length-take, length-drop, take-append-drop, drop-of-length-le, List·getD-append}
+use lib.ListN.{replicate-append-replicate, set}
+use lib.Seq.{take-at, drop-at, take-append-le, drop-append-le, take-append-add, drop-append-add, take-take, take-add, drop-drop, getD-take, getD-drop, length-take-le, set-split}
 use borrow.Rule.Slice.PartMut.{midOf, putMid}
-use Rattle.rules.specs.Bytes.{bytes, are-bytes}
-use Rattle.rules.proofs.ByteLaws.{bytes-append, bytes-take, bytes-drop}
-use Rattle.rules.specs.Bytes.{laid}
+use Rattle.rules.specs.Bytes.{bytes, fill, are-bytes, laid}
+use Rattle.rules.proofs.ByteLaws.{bytes-append, bytes-take, bytes-drop, fill-is}
+use native.Mathlib.Numerals.{add-one}
 
 laid-is : (at : ℕ) (v b : List ℕ) → laid at v b ≡ take at b ++ (v ++ drop (at + length v) b)
 unfolding laid
@@ -28,6 +29,10 @@ unfolding laid
 laid-all v b e =
     let z : drop (0 + length v) b ≡ [] = drop-of-length-le b {i = 0 + length v} (omega arith) in
     rw z (append-nil v)
+
+pub laid-nothing : (at : ℕ) (b : List ℕ) → laid at [] b ≡ b
+unfolding laid
+laid-nothing at b = let e : at + 0 ≡ at = omega arith in rw e (take-append-drop at b)
 
 -- a number of two bytes, as `put_number` writes it
 pub laid-number : (i n : ℕ) (b : List ℕ) → take i b ++ (bytes 2 n ++ drop (i + 2) b) ≡ laid i (bytes 2 n) b
@@ -175,3 +180,49 @@ laid-in-part a n at v b g h =
       ← laid-append at v (midOf a n b) m (drop n (drop a b)),
       take-append-drop n (drop a b),
     )
+
+-- ---- over bytes that stand behind others, before others, or have zeros behind them
+
+-- behind a front
+pub laid-behind : (x v b : List ℕ) (at : ℕ) → x ++ laid at v b ≡ laid (length x + at) v (x ++ b)
+unfolding laid
+laid-behind x v b at =
+    let e : length x + at + length v ≡ length x + (at + length v) = omega arith in
+    rw (take-append-add x b at, e, drop-append-add x b (at + length v)) (sym (append-assoc x (take at b) (v ++ drop (at + length v) b)))
+
+-- before a rest
+pub laid-before : (v b rest : List ℕ) (at : ℕ) → at + length v ≤ length b → laid at v b ++ rest ≡ laid at v (b ++ rest)
+laid-before v b rest at h = sym (laid-append at v b h rest)
+
+-- over the zeros behind a front
+pub laid-on-zeros : (f v : List ℕ) (n : ℕ) → length v ≤ n → laid (length f) v (f ++ replicate n 0) ≡ fill (length f + n) (f ++ v)
+unfolding laid
+laid-on-zeros f v n h =
+    let la : length (f ++ v) ≡ length f + length v = length-append f v in
+    let left : length f + n - length (f ++ v) ≡ n - length v = omega arith in
+    let parts : n ≡ length v + (n - length v) = omega arith in
+    let behind : drop (length v) (replicate n 0) ≡ replicate {A = ℕ} (n - length v) 0 =
+    ap (λ (k : ℕ). drop (length v) (replicate {A = ℕ} k 0)) parts ∙ ap (drop (length v)) (sym (replicate-append-replicate (length v) (n - length v) 0))
+    ∙ drop-at (replicate (length v) 0) (replicate (n - length v) 0) (length v) (length-replicate (length v) 0) in
+    rw (
+      take-at f (replicate n 0) (length f) refl,
+      drop-append-add f (replicate n 0) (length v),
+      behind,
+      fill-is (length f + n) (f ++ v) (omega arith),
+      left,
+      append-assoc f v (replicate (n - length v) 0),
+    )
+
+pub fill-laid : (n : ℕ) (v b : List ℕ) (at : ℕ) → at + length v ≤ length b → length b ≤ n → fill n (laid at v b) ≡ laid at v (fill n b)
+fill-laid n v b at h g =
+    rw (laid-before v b (replicate n 0) at h)
+    (take-laid-around at n v (b ++ replicate n 0) (omega arith) (simp (length-append, length-replicate) (omega arith)))
+
+-- a byte stored, as bytes laid over others
+pub one-laid : (at x : ℕ) (b : List ℕ) → at < length b → set b at x ≡ laid at (x ∷ []) b
+unfolding laid
+one-laid at x b h = set-split b at x h ∙ ap (λ (n : ℕ). take at b ++ (x ∷ drop n b)) (sym (add-one at))
+
+-- bytes laid in front of zeros
+pub filled : (n : ℕ) (v : List ℕ) {out : List ℕ} → length v ≤ n → out ≡ laid 0 v (replicate n 0) → out ≡ fill n v
+filled n v h e = e ∙ laid-on-zeros [] v n h ∙ ap (λ (k : ℕ). fill k v) (zero-add n)

@@ -1,3 +1,5 @@
 pub mod Laid
+pub mod Parted
 pub mod Writes
 pub mod Tests
+pub mod Freezing

@@ -10,6 +10,7 @@ use lib.Seq.{drop-cons}
 use lib.Dec.{eqb}
 use lib.Bits.{bitOr, bitXor, or-zero-l, or-add-and, and-le-l, and-le-r, xor-add-and, xor-self}
 use Rattle.rules.specs.Maps.{_and_, all, same}
+use Rattle.rules.proofs.Conjunctions.{join-assoc, join-end}
 use Rattle.rules.proofs.Laws.{cases, both, eqb-true, eqb-false, eqb-eq, same?, same-eq}
 use Rattle.rules.specs.Bytes.{all-zero}
 
@@ -23,21 +24,15 @@ xor-test a b = same? a b
     (λ e. rw (e, xor-self b) (sym (eqb-true b b refl)))
     (λ e. rw (eqb-false a b e) (eqb-false (bitXor a b) 0 (λ q. e (omega (arith, xor-add-and a b, and-le-l a b, and-le-r a b)))))
 
-and-assoc : (a b c : Bool) → ((a && b) && c) ≡ (a && (b && c))
-and-assoc a b c = cases a (λ e. rw e) (λ e. rw e)
-
-last : (a : Bool) → (a && true) ≡ a
-last a = cases a (λ e. rw e) (λ e. rw e)
-
 module _ (s : List ℕ) (i any : ℕ) (z : Bool) (e : (eqb any 0 && all-zero (drop i s)) ≡ z) where
   pub zeros-next : i < length s → (eqb (bitOr any (getD s i 0)) 0 && all-zero (drop (i + 1) s)) ≡ z
   unfolding all-zero all _and_
   zeros-next h =
-      rw (or-test any (getD s i 0), and-assoc (eqb any 0) (eqb (getD s i 0) 0) (all-zero (drop (i + 1) s)), add-one i) (rw (drop-cons s i 0 h) at e)
+      rw (or-test any (getD s i 0), join-assoc (eqb any 0) (eqb (getD s i 0) 0) (all-zero (drop (i + 1) s)), add-one i) (rw (drop-cons s i 0 h) at e)
 
   pub zeros-end : length s ≤ i → eqb any 0 ≡ z
   unfolding all-zero all
-  zeros-end h = sym (last (eqb any 0)) ∙ (rw (drop-of-length-le s h) at e)
+  zeros-end h = sym (join-end (eqb any 0)) ∙ (rw (drop-of-length-le s h) at e)
 
 module _ (a b : List ℕ) (i any : ℕ) (z : Bool) (l : length a ≡ length b) (e : (eqb any 0 && same (drop i a) (drop i b)) ≡ z) where
   pub same-next : i < length a
@@ -46,13 +41,13 @@ module _ (a b : List ℕ) (i any : ℕ) (z : Bool) (l : length a ≡ length b) (
   same-next h = rw (
     or-test any (bitXor (getD a i 0) (getD b i 0)),
     xor-test (getD a i 0) (getD b i 0),
-    and-assoc (eqb any 0) (eqb (getD a i 0) (getD b i 0)) (same (drop (i + 1) a) (drop (i + 1) b)),
+    join-assoc (eqb any 0) (eqb (getD a i 0) (getD b i 0)) (same (drop (i + 1) a) (drop (i + 1) b)),
     add-one i,
   ) (rw (drop-cons a i 0 h, drop-cons b i 0 (omega arith)) at e)
 
   pub same-end : length a ≤ i → eqb any 0 ≡ z
   unfolding same
-  same-end h = sym (last (eqb any 0)) ∙ (rw (drop-of-length-le a h, drop-of-length-le b {i = i} (omega arith)) at e)
+  same-end h = sym (join-end (eqb any 0)) ∙ (rw (drop-of-length-le a h, drop-of-length-le b {i = i} (omega arith)) at e)
 
 -- slices of other lengths differ
 pub same-not : (a b : List ℕ) → (length a ≡ length b → ⊥) → false ≡ same a b
@@ -73,4 +68,4 @@ are-zeros (suc n) = are-zeros n
 pub zeros-append : (l m : List ℕ) → all-zero (l ++ m) ≡ (all-zero l and all-zero m)
 unfolding all-zero all _and_
 zeros-append [] m = refl
-zeros-append (x ∷ l) m = rw (zeros-append l m) (sym (and-assoc (eqb x 0) (all-zero l) (all-zero m)))
+zeros-append (x ∷ l) m = rw (zeros-append l m) (sym (join-assoc (eqb x 0) (all-zero l) (all-zero m)))

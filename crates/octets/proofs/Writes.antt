@@ -6,10 +6,10 @@ use native.Mathlib.Omega.{arith}
 use mathlib.Core.Path.{_≡_, sym, ap, _∙_}
 use mathlib.Core.List.{List, [], _∷_, _++_, append-assoc, append-nil}
 use lib.ListN.{length, getD, take, drop, set, replicate, length-take, length-drop, List·getD-append, drop-of-length-le}
-use lib.Seq.{sets-eq, paste, paste-suc, take-suc, drop-cons, set-at, take-at, drop-at, getD-take, getD-drop, getD-append-add, take-all, take-length, drop-length, length-take-le, append-snoc}
+use lib.Seq.{sets-eq, paste, paste-suc, take-suc, drop-cons, set-at, take-at, drop-at, getD-take, getD-drop, getD-append-add, take-all, take-length, drop-length, length-take-le}
+use lib.Seq.{append-snoc}
 use borrow.Rule.Slice.PartMut.{midOf, putMid}
-use Rattle.rules.specs.Bytes.{bytes}
-use Rattle.rules.specs.Bytes.{laid}
+use Rattle.rules.specs.Bytes.{bytes, laid}
 
 pub number-put : (s : List ℕ) (i n hi lo : ℕ) → i + 1 < length s → n < 65536 → hi ≡ n / 256 → lo ≡ n % 256
     → set (set s i hi) (i + 1) lo ≡ take i s ++ (bytes 2 n ++ drop (i + 2) s)

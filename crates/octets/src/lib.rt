@@ -1,6 +1,6 @@
 // Bytes in slices that the caller lends: numbers of two bytes, keys, copies, tests, and moves to make or close a gap.
 ghost use mathlib.Core.Path.{_≡_};
-ghost use mathlib.Core.List.{_++_};
+ghost use mathlib.Core.List.{_∷_, _++_};
 ghost use Prim.Native.Nat.{_+_, _-_, _/_, _%_, _<_, _≤_};
 ghost use lib.ListN.{length, take, drop, replicate};
 ghost use Rattle.rules.specs.Maps.{same};
@@ -77,6 +77,19 @@ pub fn copy_in(dst: &mut [u8], at: usize, src: &[u8])
         dst[at + i] = src[i];
         i += 1;
     }
+}
+
+// Freezes n bytes: copies them to a place behind them, with a 1 in front that marks that they are there.
+pub fn freeze(s: &mut [u8], from: usize, to: usize, n: usize)
+    requires { ⌜ (from + n ≤ to) × (to + n < length (now s)) ⌝ }
+    ensures { λ _. ⌜ now (s .exit) ≡ laid to (1 ∷ take n (drop from (now (s .entry)))) (now (s .entry)) ⌝ }
+{
+    let mut i = 0;
+    while i < n {
+        s[to + 1 + i] = s[from + i];
+        i += 1;
+    }
+    s[to] = 1;
 }
 
 // Makes every byte zero.

@@ -1,19 +1,18 @@
 -- What the code's answer stands for: document 01's number or bytes for each case.
 use Prim.Native.Nat.{ℕ}
-use mathlib.Core.Bool.{Bool}
 use mathlib.Core.Option.{Option, none, some}
 use mathlib.Core.List.{List}
 use lib.ListN.{take}
 use Rattle.rules.specs.State.{State}
 use Rattle.rules.specs.Reports as rules
 use Rattle.rules.specs.Run.{reply-length}
-use Rattle.store.specs.Decode.{Held}
 use Rattle.store.specs.Entries.{Left, leave}
-use Rattle.catalogue.specs.CatOf.{cat-of, product-of}
+use Rattle.class_tables.specs.Built.{cat-of, product-of}
 use Rattle.outcome.specs.declared.Outcome.{Outcome}
 use Rattle.outcome.specs.declared.Outcome.the-variants.{Answered, Quiet, Dropped}
 use Rattle.outcome.specs.declared.Started.{Started}
 use Rattle.outcome.specs.declared.Started.the-variants as started
+use Rattle.class_tables.specs.declared.Product.{Product}
 
 -- with the reply buffer as the call left it
 abbrev pub outcome-of : Outcome → List ℕ → rules.Outcome
@@ -26,8 +25,8 @@ abbrev pub left-by : Outcome → List ℕ → List ℕ → Left
 left-by r store buffer = record { outcome = outcome-of r buffer; store = store; buffer = buffer }
 
 -- what a state of a product, and an outcome, leave of a store and a reply buffer
-abbrev pub leaves : Bool → State → List ℕ → List ℕ → State × rules.Outcome → Left
-leaves large s store buffer x = leave (record { product = product-of large; catalogue = cat-of large; state = s }) store buffer (x .0) (x .1)
+abbrev pub leaves : Product → State → List ℕ → List ℕ → State × rules.Outcome → Left
+leaves pr s store buffer x = leave (record { product = product-of pr; catalogue = cat-of pr; state = s }) store buffer (x .0) (x .1)
 
 -- the drop of a power-on, or none
 abbrev pub started-of : Started → Option ℕ

@@ -2,19 +2,18 @@
 use Prim.Native.Nat.{ℕ, zero, suc, _+_, _*_, _/_, _%_, _^_, _≤_, _<_, _-_}
 use native.Mathlib.Omega.{arith}
 use native.Mathlib.Nat.{pow-suc, mul-assoc, mul-comm}
-use mathlib.Core.Path.{_≡_, refl, sym, _∙_, ap}
-use mathlib.Core.Bool.{Bool, true, false, not, cond}
-use mathlib.Core.Option.{Option, none, some}
+use mathlib.Core.Path.{_≡_, refl, _∙_, ap, sym}
+use mathlib.Core.Bool.{Bool, true, false}
 use mathlib.Core.List.{List, [], _∷_, _++_}
-use lib.ListN.{length, take, drop, getD, replicate, length-append, length-replicate, length-drop}
-use lib.Seq.{length-take-le, take-nil}
-use lib.Dec.{eqb, ltb}
-use Rattle.rules.specs.Maps.{_and_, Map, find, keys, every, all}
+use lib.ListN.{length, take, drop, replicate, length-append, length-replicate, length-drop, getD}
+use lib.Seq.{length-take-le, take-nil, take-append-add, drop-cons}
+use lib.Dec.{eqb}
+use Rattle.rules.specs.Maps.{keys, every, all}
 use Rattle.rules.specs.Bytes.{byte, two, number, number-from, bytes, fill, is-byte, are-bytes, bit, bits-from, bit-bytes}
 use Rattle.rules.specs.Masks.{total}
-use Rattle.rules.specs.State.{Contents}
 use Rattle.rules.specs.Commands.{cut}
-use Rattle.rules.proofs.Laws.{cases, never, both, and-true, ltb-lt, lt-ltb, eqb-true, eqb-eq, all-append, every-find}
+use Rattle.rules.proofs.Laws.{both, and-true, ltb-lt, lt-ltb, eqb-true, all-append}
+use native.Mathlib.Numerals.{add-one}
 
 pub bytes-append : (l m : List ℕ) → are-bytes l ≡ true → are-bytes m ≡ true → are-bytes (l ++ m) ≡ true
 unfolding are-bytes
@@ -69,6 +68,32 @@ two-small l i h =
     let b : byte l (i + 1) < 256 = byte-small l (i + 1) h in
     omega arith
 
+-- what is known of a slice's elements, as a test
+pub known-bytes : (b : List ℕ) → ((i : ℕ) → byte b i < 256) → are-bytes b ≡ true
+known-bytes [] h = bytes-none
+known-bytes (x ∷ b) h = bytes-cons x b (h 0) (known-bytes b (λ i. h (suc i)))
+
+-- ---- filled lists
+
+-- what fits isn't cut
+pub fill-keeps : (n : ℕ) (v : List ℕ) → length v ≤ n → fill n v ≡ v ++ take (n - length v) (replicate n 0)
+fill-keeps n v h =
+    ap (λ (j : ℕ). take j (v ++ replicate n 0)) (let z : n ≡ length v + (n - length v) = omega arith in z)
+    ∙ take-append-add v (replicate n 0) (n - length v)
+
+pub take-zeros : (m n : ℕ) → m ≤ n → take {A = ℕ} m (replicate n 0) ≡ replicate m 0
+take-zeros zero n h = refl
+take-zeros (suc m) zero h = absurd (omega arith)
+take-zeros (suc m) (suc n) h = ap (λ (l : List ℕ). 0 ∷ l) (take-zeros m n (omega arith))
+
+pub fill-is : (n : ℕ) (v : List ℕ) → length v ≤ n → fill n v ≡ v ++ replicate (n - length v) 0
+fill-is n v h = fill-keeps n v h ∙ ap (λ (z : List ℕ). v ++ z) (take-zeros (n - length v) n (omega arith))
+
+pub fill-nothing : (n : ℕ) → fill n [] ≡ replicate n 0
+fill-nothing n = take-zeros n n (omega arith)
+
+-- ---- numbers
+
 -- a number in one byte
 pub number-of-one : (l : List ℕ) → length l ≡ 1 → are-bytes l ≡ true → number l < 256
 unfolding number-from are-bytes all
@@ -117,3 +142,17 @@ pub bytes-of-bits : (k : ℕ) (l : List Bool) → are-bytes (bit-bytes k l) ≡ 
 unfolding bit-bytes
 bytes-of-bits zero l = bytes-none
 bytes-of-bits (suc k) l = bytes-cons (bits-from 0 (take 8 l)) (bit-bytes k (drop 8 l)) (eight-small l) (bytes-of-bits k (drop 8 l))
+
+-- ---- numbers as bytes
+
+pub length-bytes : (k x : ℕ) → length (bytes k x) ≡ k
+unfolding bytes
+length-bytes zero x = refl
+length-bytes (suc k) x = ap suc (length-bytes k x)
+
+pub two-of-bytes : (n : ℕ) → n ≤ 65535 → two (bytes 2 n) 0 ≡ n
+unfolding bytes
+two-of-bytes n h = omega arith
+
+pub drop-next : (l : List ℕ) (i : ℕ) → i < length l → drop i l ≡ getD l i 0 ∷ drop (i + 1) l
+drop-next l i h = drop-cons l i 0 h ∙ ap (λ (n : ℕ). getD l i 0 ∷ drop n l) (sym (add-one i))

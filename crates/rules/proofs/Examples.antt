@@ -1,19 +1,17 @@
 -- The examples of document 01, each by computation from the rules.
-use Prim.Native.Nat.{ℕ, zero, suc, _+_, _*_, _-_, _/_, _%_}
+use Prim.Native.Nat.{ℕ, _+_}
 use mathlib.Core.Path.{_≡_, refl}
-use mathlib.Core.Bool.{Bool, true, false}
-use mathlib.Core.Option.{Option, none, some}
 use mathlib.Core.List.{List, [], _∷_, _++_, map}
-use lib.ListN.{length, take, drop, getD, replicate}
+use lib.ListN.{length, take, drop, replicate}
 use lib.Dec.{eqb}
 use Rattle.rules.specs.Maps.{Map, put-if, gather}
 use Rattle.rules.specs.Bytes.{byte, bytes, fill}
 use Rattle.rules.specs.Catalogue.{Catalogue}
 use Rattle.rules.specs.State.{State, counter}
 use Rattle.rules.specs.Messages.{trailer, framed}
-use Rattle.rules.specs.Walks.{Section, sections, section-contents, frozen}
+use Rattle.rules.specs.Walks.{sections, section-contents, frozen}
 use Rattle.rules.specs.Reports.{Outcome, dropped, quiet, answered}
-use Rattle.rules.specs.Run.{Input, Call, message, attribute-report, alarm-report, step, fresh, run, after, computing-rules}
+use Rattle.rules.specs.Run.{Input, Call, message, step, fresh, run, after, computing-rules}
 use Rattle.rules.specs.Products.{Small, Large, computing-products}
 
 -- a call with room for everything
@@ -117,7 +115,8 @@ unfoldable pub e14 : List (List ℕ)
 e14 = both-products (λ cat. tell cat (bridge ∷ []) (command 2 0x4D 2 0 []))
 
 unfoldable pub computing : ℕ
-unfolding computing-rules computing-products call command sent shown tell bridge bridge-with-max-age fetched whole-upload upload-after of-class-46 both-products e1 e3 e4 e5 e6 e7 e10 e11 e12 e14
+unfolding computing-rules computing-products call command sent shown tell bridge bridge-with-max-age fetched whole-upload upload-after of-class-46 both-products e1 e3 e4 e5 e6 e7
+    e10 e11 e12 e14
 computing = 0
 
 -- ---- the table: what the rules give, and what document 01 prints (a line of numbers for each product, or for each section)

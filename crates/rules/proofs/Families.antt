@@ -1,15 +1,16 @@
 -- A class and those that come with it.
 use Prim.Native.Nat.{ℕ}
-use mathlib.Core.Path.{_≡_, refl, _∙_}
-use mathlib.Core.Bool.{Bool, true, false}
+use mathlib.Core.Path.{_≡_, refl, sym, _∙_}
+use mathlib.Core.Bool.{true, false}
 use mathlib.Core.Option.{some}
+use mathlib.Core.List.{[], _∷_, map}
 use lib.Dec.{eqb}
-use Rattle.rules.specs.Maps.{find, keys, keep, among, rising}
-use Rattle.rules.specs.Catalogue.{Creation, created, automatic, comes-with, Class, Catalogue, class, known, is-created, lead, leader, family}
+use Rattle.rules.specs.Maps.{Map, find, keys, keep, among, rising}
+use Rattle.rules.specs.Catalogue.{Creation, created, automatic, comes-with, Class, Catalogue, class, known, no-class, is-created, lead, leader, family}
 use Rattle.rules.specs.WellFormed.{WellFormed, leader-is-created, comes-with-a-created-one}
-use Rattle.rules.proofs.Laws.{true-false, eqb-eq, eqb-true, find-some, has-among}
+use Rattle.rules.proofs.Laws.{true-false, among-here, eqb-eq, eqb-true, find-some, has-among}
 use Rattle.rules.proofs.MapLaws.{rising-up, rising-keep, Each, each-imp, each-keep, each-found, found-kept, find-kept}
-use Rattle.rules.proofs.Lookups.{found-class, known-class, class-says}
+use Rattle.rules.proofs.Lookups.{found-class, known-class, unknown-class, class-says}
 
 pub classes-found : (cat : Catalogue) → WellFormed cat → Each (λ c k. find c (cat .classes) ≡ some k) (cat .classes)
 classes-found cat w = each-found 0 (cat .classes) (rising-up (keys (cat .classes)) (w .classes-rise))
@@ -20,6 +21,18 @@ unfolding family
 family-classes cat w c =
     each-keep (λ d k. class cat d ≡ k) (λ d k. eqb (lead d (k .creation)) c) (cat .classes)
     (each-imp (λ d k. find d (cat .classes) ≡ some k) (λ d k. class cat d ≡ k) (found-class cat) (cat .classes) (classes-found cat w))
+
+-- so a family is told by their numbers
+abbrev pub numbered : Catalogue → ℕ → ℕ × Class
+numbered cat d = (d, class cat d)
+
+pub family-by-numbers : (cat : Catalogue) → WellFormed cat → (c : ℕ) → family cat c ≡ map (numbered cat) (keys (family cat c))
+unfolding keys
+family-by-numbers cat w c = by-numbers (family cat c) (family-classes cat w c)
+  where
+    by-numbers : (m : Map Class) → Each (λ d k. class cat d ≡ k) m → m ≡ map (numbered cat) (keys m)
+    by-numbers [] h = refl
+    by-numbers (e ∷ m) h = λ i. (e .0, sym (h .0) i) ∷ by-numbers m (h .1) i
 
 module _ (cat : Catalogue) (wf : WellFormed cat) where
   pub family-rises : (c : ℕ) → rising (keys (family cat c)) ≡ true
@@ -60,3 +73,13 @@ module _ (cat : Catalogue) (wf : WellFormed cat) where
   alone c n d h =
       let f = in-family c d h in
       leads-or-led d c (class cat d .creation) (f .1) (class-says (comes-with-a-created-one cat) cat (wf .companions-of-created) d (f .0)) n
+
+  -- nothing comes with a number that no class has
+  pub unknown-family : (c : ℕ) → known cat c ≡ false → family cat c ≡ []
+  unfolding no-class keys
+  unknown-family c e = nothing (family cat c)
+      (λ d h. let itself : d ≡ c = alone c (rw (unknown-class cat c e) refl) d h in true-false (in-family c d h .0) (rw itself e))
+    where
+      nothing : (m : Map Class) → ((d : ℕ) → among d (keys m) ≡ true → ⊥) → m ≡ []
+      nothing [] f = refl
+      nothing (x ∷ m) f = absurd (f (x .0) (among-here (x .0) (keys m)))

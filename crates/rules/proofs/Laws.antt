@@ -1,15 +1,14 @@
 -- Laws of tests, of lists and of the tables of Maps.
-use Prim.Native.Nat.{ℕ, zero, suc, _+_, _≤_, _<_}
+use Prim.Native.Nat.{ℕ, _≤_, _<_}
 use native.Mathlib.Omega.{arith}
 use mathlib.Core.Path.{_≡_, refl, sym, _∙_, ap, subst}
-use mathlib.Core.Bool.{Bool, true, false, not, _&&_, _||_, cond}
+use mathlib.Core.Bool.{Bool, true, false, not}
 use mathlib.Core.Option.{Option, none, some}
 use mathlib.Core.Logic.{_≢_}
-use mathlib.Core.List.{List, [], _∷_, _++_, map}
-use lib.ListN.{length}
-use lib.Dec.{T, eqb, ltb, leb, leb→le, nleb→lt, le→leb, ltb→lt, nltb→le, eqb→eq, eqb-refl}
+use mathlib.Core.List.{List, [], _∷_, _++_}
+use lib.Dec.{T, eqb, ltb, leb, leb→le, nleb→lt, le→leb, ltb→lt, nltb→le, eqb→eq}
 use mir.Facts.{eqb-no, no-eqb, yes-eqb, yes-ltb, no-ltb}
-use Rattle.rules.specs.Maps.{_and_, _or_, Map, given, put-if, is-some, find, has, keys, put, keep, remove, every, each, gather, at-key, rising, among, distinct, all, same, those}
+use Rattle.rules.specs.Maps.{_and_, _or_, Map, given, is-some, find, has, keys, put, keep, every, each, among, all, same}
 
 -- statements one after another, written without brackets
 infixr 2 _&_
@@ -151,6 +150,16 @@ pub all-among : (p : ℕ → Bool) (l : List ℕ) → all p l ≡ true → (k : 
 unfolding all among
 all-among p [] h k t = never t
 all-among p (x ∷ l) h k t = or-cases t (λ e. rw (eqb-eq k x e) (both h .0)) (λ e. all-among p l (both h .1) k e)
+
+-- what holds of each number of a list holds of a number that is among them
+abbrev pub EachOf : (ℕ → Type 0) → List ℕ → Type 0
+EachOf P [] = Unit {0}
+EachOf P (n ∷ l) = P n × EachOf P l
+
+pub each-among : (P : ℕ → Type 0) (l : List ℕ) → EachOf P l → (n : ℕ) → among n l ≡ true → P n
+unfolding among
+each-among P [] h n t = never t
+each-among P (x ∷ l) h n t = or-cases t (λ e. rw (eqb-eq n x e) (h .0)) (λ e. each-among P l (h .1) n e)
 
 -- ---- tables
 

@@ -1,9 +1,12 @@
 pub mod Laws
 pub mod MapLaws
+pub mod Conjunctions
+pub mod Computed
 pub mod Lookups
 pub mod Families
 pub mod Standing
 pub mod ByteLaws
+pub mod Bitmaps
 pub mod Verdicts
 pub mod Examples
 pub mod Limits

@@ -1,15 +1,13 @@
 -- What a well formed catalogue says of a class and of an attribute that was looked up.
-use Prim.Native.Nat.{ℕ, zero, suc, _+_, _≤_, _<_}
+use Prim.Native.Nat.{ℕ}
 use mathlib.Core.Path.{_≡_, refl, sym, _∙_, ap}
-use mathlib.Core.Bool.{Bool, true, false, not, cond}
+use mathlib.Core.Bool.{Bool, true, false}
 use mathlib.Core.Option.{Option, none, some}
-use mathlib.Core.List.{List, [], _∷_, _++_}
-use lib.Dec.{eqb}
-use Rattle.rules.specs.Maps.{_and_, Map, given, is-some, find, has, keys, every, rising}
-use Rattle.rules.specs.Catalogue.{Attribute, Creation, created, automatic, comes-with, Class, Catalogue, class, known, attribute, no-attribute, no-class, supported, is-fixed, is-created, lead, leader}
-use Rattle.rules.specs.WellFormed.{implies, every-class, every-attribute}
+use Rattle.rules.specs.Maps.{given, is-some, find, every}
+use Rattle.rules.specs.Catalogue.{Attribute, Creation, created, automatic, comes-with, Class, Catalogue, class, known, attribute, no-attribute, no-class, supported}
+use Rattle.rules.specs.Catalogue.{is-fixed, is-created, lead, leader}
+use Rattle.rules.specs.WellFormed.{implies, every-class, every-attribute, is-companion}
 use Rattle.rules.proofs.Laws.{cases, never, true-false, not-true, both, every-find, find-some}
-use Rattle.rules.proofs.MapLaws.{some-eq, none-some}
 
 pub implied : {a b : Bool} → implies a b ≡ true → a ≡ true → b ≡ true
 unfolding implies Rattle.rules.specs.Maps._or_
@@ -119,3 +117,9 @@ with-W a h = not-fixed a (λ e. true-false h (not-true (both (both e .1) .0)))
 
 pub with-L : (a : Attribute) → a .L ≡ true → is-fixed a ≡ false
 with-L a h = not-fixed a (λ e. true-false h (not-true (both (both e .1) .1)))
+
+-- a class that is neither created nor comes with one leads itself
+pub plain-lead : (c : ℕ) (x : Creation) → is-created x ≡ false → is-companion x ≡ false → lead c x ≡ c
+plain-lead c created h g = never (sym h)
+plain-lead c (automatic l) h g = refl
+plain-lead c (comes-with d) h g = never (sym g)

@@ -1,5 +1,5 @@
 -- Laws of tables whose keys rise: what is found, put in, kept, changed and gathered.
-use Prim.Native.Nat.{ℕ, zero, suc, _*_, _≤_, _<_, zero-le}
+use Prim.Native.Nat.{ℕ, suc, _*_, _≤_, _<_, zero-le}
 use native.Mathlib.Omega.{arith}
 use native.Mathlib.Nat.{suc-mul}
 use mathlib.Core.Path.{_≡_, refl, sym, _∙_, ap, subst}
@@ -9,8 +9,9 @@ use mathlib.Core.Logic.{_≢_}
 use mathlib.Core.List.{List, [], _∷_, _++_}
 use lib.ListN.{length, length-append}
 use lib.Dec.{eqb, ltb}
-use Rattle.rules.specs.Maps.{_and_, _or_, Map, given, find, has, keys, put, keep, remove, every, each, at-key, gather, rising, among, all}
-use Rattle.rules.proofs.Laws.{cases, never, both, and-true, or-cases, or-left, or-right, or-none, false-or, eqb-true, eqb-false, eqb-eq, eqb-ne, ltb-lt, lt-ltb, ltb-le, same?, among-here, all-append}
+use Rattle.rules.specs.Maps.{_and_, _or_, Map, given, find, has, keys, put, keep, remove, every, each, at-key, gather, rising, among, all, those, first-that-applies}
+use Rattle.rules.proofs.Laws.{cases, never, both, and-true, or-cases, or-left, or-right, or-none, false-or, eqb-true, eqb-false, eqb-eq, eqb-ne, ltb-lt, lt-ltb, ltb-le}
+use Rattle.rules.proofs.Laws.{same?, among-here, all-append, false-not, true-false}
 
 -- ---- what may be there
 
@@ -64,6 +65,17 @@ pub among-back : (k : ℕ) (l m : List ℕ) → among k m ≡ true → among k (
 unfolding among
 among-back k [] m h = h
 among-back k (x ∷ l) m h = or-right (eqb k x) (among-back k l m h)
+
+-- what is among those that pass a test
+pub among-those : (p : ℕ → Bool) (n : ℕ) (l : List ℕ) → among n (those p l) ≡ (p n and among n l)
+unfolding among those _and_ _or_
+among-those p n [] = cases (p n) (λ t. rw t refl) (λ t. rw t refl)
+among-those p n (x ∷ l) =
+    let later : among n (those p l) ≡ (p n and among n l) = among-those p n l in
+    cases (eqb n x)
+    (λ e. let here : p n ≡ p x = ap p (eqb-eq n x e) in
+    cases (p x) (λ t. rw (t, e, here, t) refl) (λ t. rw (t, e, later, here, t) refl))
+    (λ e. cases (p x) (λ t. rw (t, e) later) (λ t. rw (t, e) later))
 
 -- ---- a statement of each entry
 
@@ -350,3 +362,53 @@ pub length-gather : {A B : Type 0} (f : A → List B) (n : ℕ) → ((a : A) →
 unfolding gather
 length-gather f n h [] = omega arith
 length-gather f n h (a ∷ l) = rw (suc-mul, length-append (f a) (gather f l), h a, length-gather f n h l) (omega arith)
+
+-- where keys rise, one entry has a key that is there
+pub shorter : {A : Type 0} (k b : ℕ) (m : Map A) → Up b (keys m) → among k (keys m) ≡ true → suc (length (remove k m)) ≡ length m
+unfolding keys keep among
+shorter k b [] u h = never h
+shorter k b (e ∷ m) u h = cases (eqb (e .0) k)
+    (λ y.
+    let z : e .0 ≡ k = eqb-eq (e .0) k y in
+    let others : Each (λ j a. not (eqb j k) ≡ true) m =
+    each-imp (λ j a. suc (e .0) ≤ j) (λ j a. not (eqb j k) ≡ true) (λ j a g. false-not (eqb-false j k (λ same. absurd (omega arith)))) m (each-up (suc (e .0)) m (u .1)) in
+    rw (y, keep-all (λ j a. not (eqb j k)) m (every-of-each (λ j a. not (eqb j k)) m others)))
+    (λ y.
+    let past : among k (keys m) ≡ true = among-past k (e .0) (keys m) h (λ same. eqb-ne (e .0) k y (sym same)) in
+    rw y (ap suc (shorter k (suc (e .0)) m (u .1) past)))
+
+-- what is kept by its key
+module _ {A : Type 0} (p : ℕ → Bool) where
+  pub find-keep : (k : ℕ) (m : Map A) → p k ≡ true → find k (keep (λ j a. p j) m) ≡ find k m
+  unfolding find keep
+  find-keep k [] h = refl
+  find-keep k (x ∷ m) h = cases (eqb k (x .0))
+      (λ u. let q : p (x .0) ≡ true = ap p (sym (eqb-eq k (x .0) u)) ∙ h in rw (q, u) refl)
+      (λ u. cases (p (x .0)) (λ q. rw (q, u) (find-keep k m h)) (λ q. rw (q, u) (find-keep k m h)))
+
+  pub find-lost : (k : ℕ) (m : Map A) → p k ≡ false → find k (keep (λ j a. p j) m) ≡ none
+  unfolding find keep
+  find-lost k [] h = refl
+  find-lost k (x ∷ m) h = cases (p (x .0))
+      (λ q. rw (q, eqb-false k (x .0) (λ z. true-false q (ap p (sym z) ∙ h))) (find-lost k m h))
+      (λ q. rw q (find-lost k m h))
+
+-- a new key makes a table longer by one
+pub longer : {A : Type 0} (k : ℕ) (a : A) (m : Map A) → among k (keys m) ≡ false → length (put k a m) ≡ suc (length m)
+unfolding keys put among
+longer k a [] h = refl
+longer k a (e ∷ m) h =
+    let g = or-none h in
+    cases (ltb k (e .0)) (λ y. rw y) (λ y. rw (y, g .0) (ap suc (longer k a m (g .1))))
+
+-- the first line that applies has what each line has if its test is true
+abbrev pub EachLine : {A : Type 0} → (A → Type 0) → List (Bool × A) → Type 0
+EachLine P [] = Unit {0}
+EachLine P (r ∷ l) = (r .0 ≡ true → P (r .1)) × EachLine P l
+
+pub first-has : {A : Type 0} (P : A → Type 0) (l : List (Bool × A)) → EachLine P l → (a : A) → first-that-applies l ≡ some a → P a
+unfolding first-that-applies
+first-has P [] h a e = none-some e
+first-has P (r ∷ l) h a e = cases (r .0)
+    (λ t. let z : r .1 ≡ a = some-eq (rw t at e) in rw (← z) (h .0 t))
+    (λ t. first-has P l (h .1) a (rw t at e))

@@ -1,20 +1,21 @@
 -- The keys of the instances that are there by themselves.
-use Prim.Native.Nat.{ℕ, zero, suc, _+_, _*_, _/_, _%_, _≤_, _<_}
+use Prim.Native.Nat.{ℕ, suc, _+_, _*_, _≤_, _<_}
 use native.Mathlib.Omega.{arith}
 use mathlib.Core.Path.{_≡_, refl, sym, _∙_, ap}
-use mathlib.Core.Bool.{Bool, true, false, not, cond}
-use mathlib.Core.Option.{Option, none, some}
+use mathlib.Core.Bool.{Bool, true, false, not}
+use mathlib.Core.Option.{some}
 use mathlib.Core.Logic.{_≢_}
 use mathlib.Core.List.{List, [], _∷_, _++_}
 use lib.Dec.{eqb, ltb}
-use Rattle.rules.specs.Maps.{_and_, _or_, Map, find, keys, keep, every, gather, among, all, rising}
-use Rattle.rules.specs.Catalogue.{Creation, created, automatic, comes-with, Class, Catalogue, no-class, class, known, is-created, automatic-numbers, lead, leader, key, ont-data}
+use Rattle.rules.specs.Maps.{_and_, Map, find, keys, keep, every, gather, among, all}
+use Rattle.rules.specs.Catalogue.{Creation, created, automatic, comes-with, Class, Catalogue, no-class, class, known, is-created, automatic-numbers, lead, leader, key}
+use Rattle.rules.specs.Catalogue.{ont-data}
 use Rattle.rules.specs.State.{class-of, number-of}
 use Rattle.rules.specs.Legal.{keys-of, automatic-keys}
 use Rattle.rules.specs.WellFormed.{WellFormed, automatic-numbers-rise}
-use Rattle.rules.proofs.Laws.{cases, never, true-false, not-true, both, and-true, or-cases, or-left, or-right, eqb-true, eqb-false, eqb-eq, eqb-ne, ltb-lt, among-here, all-append, all-among, every-keep}
+use Rattle.rules.proofs.Laws.{cases, never, not-true, both, and-true, or-cases, or-left, or-right, eqb-true, eqb-false, eqb-eq, eqb-ne, ltb-lt, all-among, every-keep}
 use Rattle.rules.proofs.MapLaws.{Up, up-weaken, rising-up, up-keep, rising-keep, each-of-every, every-if-found, found-kept, find-kept, all-gather, among-gather}
-use Rattle.rules.proofs.Lookups.{found-class, known-class, unknown-class, class-says}
+use Rattle.rules.proofs.Lookups.{found-class, unknown-class, class-says}
 
 pub all-imp : (p q : ℕ → Bool) → ((k : ℕ) → p k ≡ true → q k ≡ true) → (l : List ℕ) → all p l ≡ true → all q l ≡ true
 unfolding all

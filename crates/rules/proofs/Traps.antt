@@ -2,12 +2,11 @@
 use Prim.Native.Nat.{ℕ, zero, suc, _+_, _-_}
 use mathlib.Core.Path.{_≡_, refl}
 use mathlib.Core.Bool.{Bool, true, false}
-use mathlib.Core.Option.{none}
 use mathlib.Core.List.{List, [], _∷_, _++_, map}
 use lib.ListN.{length, take, drop, replicate}
 use Rattle.rules.specs.Bytes.{bytes, fill}
 use Rattle.rules.specs.Catalogue.{Catalogue}
-use Rattle.rules.specs.State.{State, counter}
+use Rattle.rules.specs.State.{State, counter, with-alarm-number}
 use Rattle.rules.specs.Messages.{framed}
 use Rattle.rules.specs.Reports.{Outcome, dropped, quiet, answered}
 use Rattle.rules.specs.Run.{Input, message, attribute-report, alarm-report, step, store-length, fresh, after, run-from-power-on}
@@ -201,7 +200,7 @@ counter-goes-254-255-1 = refl
 
 -- a fresh Small that has sent so many alarms
 unfoldable pub alarmed : ℕ → State
-alarmed n = record { table = fresh Small .table; alarms = []; alarm-number = n; remembered = none; upload = none; walk = none }
+alarmed n = with-alarm-number n (fresh Small)
 
 pub alarm-number-goes-254-255-1 : map (λ n. step Small (alarmed n) (signal-lost true) .0 .alarm-number) (0 ∷ 254 ∷ 255 ∷ []) ≡ 1 ∷ 255 ∷ 1 ∷ []
 unfolding computing-traps alarmed

@@ -8,10 +8,13 @@ use lib.Dec.{eqb, ltb, leb}
 use Rattle.rules.specs.Maps.{_and_, Map, keys, keep, put, remove, each, empty, same, those, put-if}
 use Rattle.rules.specs.Bytes.{two, bytes}
 use Rattle.rules.specs.Masks.{named, mask, total}
-use Rattle.rules.specs.Catalogue.{constant, copied, Source, stored, of-creator, count-of, Class, Catalogue, class, attribute, supported, size-of, is-stored, carried-numbers, is-created, leader, family, key, ont-data}
-use Rattle.rules.specs.State.{Contents, Entry, Table, State, class-of, number-of, holds, contents, content, read, counter, overwrite, change, with-counter, with-table}
+use Rattle.rules.specs.Catalogue.{constant, copied, Source, stored, of-creator, count-of, Class, Catalogue, class, attribute}
+use Rattle.rules.specs.Catalogue.{supported, size-of, is-stored, carried-numbers, is-created, leader, family, key, ont-data}
+use Rattle.rules.specs.State.{Contents, Entry, Table, State, class-of, number-of, holds, contents, content, read, counter, overwrite}
+use Rattle.rules.specs.State.{change, with-counter, with-table, with-alarms, with-upload, with-walk}
 use Rattle.rules.specs.Legal.{legal-content}
-use Rattle.rules.specs.Messages.{done, no-place, bad-parameter, unknown-instance, instance-exists, attribute-failed, next-number, Answer, unless-refused}
+use Rattle.rules.specs.Messages.{done, no-place, bad-parameter, unknown-instance, instance-exists, attribute-failed, next-number}
+use Rattle.rules.specs.Messages.{Answer, unless-refused}
 
 -- values cut off one after another, by the attributes' sizes
 unfoldable pub cut : (ℕ → ℕ) → List ℕ → List ℕ → Contents
@@ -83,14 +86,9 @@ unfoldable pub goes-with : Catalogue → ℕ → ℕ → ℕ → Bool
 goes-with cat c i j = eqb (leader cat (class-of j)) c and eqb (number-of j) i
 
 unfoldable pub without : Catalogue → ℕ → ℕ → State → State
-without cat c i s = record {
-  table = move-counter cat (with-created (remove (key c i) (s .table .created)) (s .table));
-  alarms = keep (λ j b. not (goes-with cat c i j)) (s .alarms);
-  alarm-number = s .alarm-number;
-  remembered = s .remembered;
-  upload = s .upload;
-  walk = s .walk;
-}
+without cat c i s =
+    let t : Table = with-created (remove (key c i) (s .table .created)) (s .table) in
+    with-table (move-counter cat t) (with-alarms (keep (λ j b. not (goes-with cat c i j)) (s .alarms)) s)
 
 unfoldable pub delete-results : Catalogue → State → ℕ → ℕ → List (Bool × List ℕ)
 delete-results cat s c i = (not (holds cat (s .table) c i), unknown-instance ∷ []) ∷ []
@@ -173,14 +171,9 @@ abbrev pub stays : Catalogue → ℕ → Bool
 stays cat j = not (is-created (class cat (leader cat (class-of j)) .creation))
 
 unfoldable pub was-reset : Catalogue → State → State
-was-reset cat s = record {
-  table = with-counter cat 0 (reset-table cat (s .table));
-  alarms = keep (λ j b. stays cat j) (s .alarms);
-  alarm-number = s .alarm-number;
-  remembered = s .remembered;
-  upload = none;
-  walk = none;
-}
+was-reset cat s =
+    let t : Table = with-counter cat 0 (reset-table cat (s .table)) in
+    with-upload none (with-walk none (with-table t (with-alarms (keep (λ j b. stays cat j) (s .alarms)) s)))
 
 unfoldable pub reset-results : Catalogue → State → ℕ → ℕ → List (Bool × List ℕ)
 reset-results cat s c i = (not (holds cat (s .table) c i), unknown-instance ∷ []) ∷ []
@@ -189,5 +182,7 @@ unfoldable pub reset : Catalogue → State → ℕ → ℕ → Answer
 reset cat s c i = unless-refused s (reset-results cat s c i) (was-reset cat s, done ∷ [])
 
 unfoldable pub computing-commands : ℕ
-unfolding cut illegal first-content new-contents new-entry carried-by not-zero bad-in-create create-results with-created create goes-with without delete-results delete unsupported unwritable set-by bad-in-set set-results moved-by-set set values get-results get reset-contents reset-table was-reset reset-results reset
+unfolding cut illegal first-content new-contents new-entry carried-by not-zero bad-in-create create-results with-created create goes-with
+    without delete-results delete unsupported unwritable set-by bad-in-set set-results moved-by-set set values get-results get
+    reset-contents reset-table was-reset reset-results reset
 computing-commands = 0

@@ -4,9 +4,12 @@ use mathlib.Core.Bool.{Bool, true, false, not, cond}
 use mathlib.Core.List.{List, [], _∷_, map}
 use lib.ListN.{length}
 use lib.Dec.{eqb, ltb, leb}
-use Rattle.rules.specs.Maps.{_and_, _or_, Map, given, keys, keep, every, rising, among, distinct, all, same, gather, is-some, first-that-applies}
+use Rattle.rules.specs.Maps.{_and_, _or_, Map, given, keys, keep, every, rising, among, distinct, all, same, gather, is-some}
+use Rattle.rules.specs.Maps.{first-that-applies}
 use Rattle.rules.specs.Bytes.{byte, two, is-byte, are-bytes}
-use Rattle.rules.specs.Catalogue.{Verdict, fine, bad, asks, Creation, created, automatic, comes-with, Class, Catalogue, class, known, attribute, size-of, stored-numbers, is-fixed, is-created, automatic-numbers, leader, family, key, ont-data}
+use Rattle.rules.specs.Catalogue.{Verdict, fine, bad, asks, Creation, created, automatic, comes-with, Class, Catalogue, class, known}
+use Rattle.rules.specs.Catalogue.{attribute, size-of, stored-numbers, is-fixed, is-created, automatic-numbers, leader, family, key}
+use Rattle.rules.specs.Catalogue.{ont-data}
 use Rattle.rules.specs.State.{Contents, Entry, Table, Alarms, Memory, State, class-of, number-of, holds, content}
 
 -- ---- contents
@@ -120,5 +123,6 @@ legal-state cat s = legal-live cat (s .table)
     and given (s .walk) true (legal-walk cat)
 
 unfoldable pub computing-legal : ℕ
-unfolding fixed-contents passes legal-content legal-contents legal-entry keys-of automatic-keys legal-table declared-from some-on legal-bitmap legal-bitmaps walked-entries legal-walk header-drops legal-memory legal-state
+unfolding fixed-contents passes legal-content legal-contents legal-entry keys-of automatic-keys legal-table declared-from some-on
+    legal-bitmap legal-bitmaps walked-entries legal-walk header-drops legal-memory legal-state
 computing-legal = 0

@@ -6,7 +6,8 @@ use lib.ListN.{replicate}
 use lib.Dec.{eqb, leb}
 use Rattle.rules.specs.Maps.{_and_, Map, among}
 use Rattle.rules.specs.Bytes.{number}
-use Rattle.rules.specs.Catalogue.{fine, bad, asks, Rule, constant, copied, Source, stored, of-creator, count-of, Attribute, created, automatic, comes-with, Class, Catalogue}
+use Rattle.rules.specs.Catalogue.{fine, bad, asks, Rule, constant, copied, Source, stored, of-creator, count-of, Attribute, created}
+use Rattle.rules.specs.Catalogue.{automatic, comes-with, Class, Catalogue}
 use Rattle.rules.specs.Messages.{create-number, delete-number, set-number, get-number, reset-number}
 
 -- ---- rules of legal content
@@ -210,11 +211,7 @@ Products = Map Catalogue
 unfoldable pub built-products : Products
 built-products = (1, Small) ∷ (2, Large) ∷ []
 
--- the code tells the two apart by one bool: is it the large one?
-unfoldable pub cat-of : Bool → Catalogue
-cat-of true = Large
-cat-of false = Small
-
 unfoldable pub computing-products : ℕ
-unfolding any from_to_ one-of an-existing existing-where with-rights RW RL RC RWC from-source first first-copied-from R with-AVC ont-data-class uni-class uni-more profile-class bridge-class bridge-more port-class port-more Small Large built-products cat-of
+unfolding any from_to_ one-of an-existing existing-where with-rights RW RL RC RWC from-source first first-copied-from R with-AVC
+    ont-data-class uni-class uni-more profile-class bridge-class bridge-more port-class port-more Small Large built-products
 computing-products = 0

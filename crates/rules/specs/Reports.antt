@@ -8,7 +8,8 @@ use Rattle.rules.specs.Maps.{_and_, _or_, Map, given, put, remove, among
 use Rattle.rules.specs.Bytes.{bytes}
 use Rattle.rules.specs.Masks.{mask}
 use Rattle.rules.specs.Catalogue.{Attribute, Catalogue, class, attribute, key}
-use Rattle.rules.specs.State.{Alarms, State, holds, contents, content, alarms-of, overwrite, change, with-table}
+use Rattle.rules.specs.State.{Alarms, State, holds, contents, content, alarms-of, overwrite, change, with-table, with-alarms}
+use Rattle.rules.specs.State.{with-alarm-number}
 use Rattle.rules.specs.Legal.{legal-content, some-on}
 use Rattle.rules.specs.Messages.{next-number, notification, alarm-type, avc-type}
 use Rattle.rules.specs.Walks.{bitmap}
@@ -64,14 +65,7 @@ unfoldable pub turned : State → ℕ → ℕ → ℕ → Bool → State × Outc
 turned s c i n on =
     let b : Alarms = set (alarms-of (key c i) (s .alarms)) n on in
     let seq : ℕ = next-number (s .alarm-number) in (
-      record {
-        table = s .table;
-        alarms = with-bitmap (key c i) b (s .alarms);
-        alarm-number = seq;
-        remembered = s .remembered;
-        upload = s .upload;
-        walk = s .walk;
-      },
+      with-alarm-number seq (with-alarms (with-bitmap (key c i) b (s .alarms)) s),
       answered (notification alarm-type c i (bitmap b ++ 0 ∷ 0 ∷ 0 ∷ seq ∷ [])),
     )
 

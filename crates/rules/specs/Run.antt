@@ -9,9 +9,12 @@ use Rattle.rules.specs.Maps.{_and_, _or_, given, among, same, first-that
 use Rattle.rules.specs.Bytes.{computing-bytes}
 use Rattle.rules.specs.Masks.{computing-masks}
 use Rattle.rules.specs.Catalogue.{Catalogue, class, known, key, ont-data, computing-catalogue}
-use Rattle.rules.specs.State.{Table, Memory, State, class-of, computing-state}
+use Rattle.rules.specs.State.{Table, Memory, State, class-of, with-memory, computing-state}
 use Rattle.rules.specs.Legal.{automatic-keys, computing-legal}
-use Rattle.rules.specs.Messages.{message-number, class-in, instance-in, contents-in, message-drops, with-result, without-result, create-number, delete-number, set-number, get-number, all-alarms-number, alarms-next-number, upload-number, upload-next-number, reset-number, not-supported, unknown-class, reply-to, Answer, unless-refused, computing-messages}
+use Rattle.rules.specs.Messages.{message-number, class-in, instance-in, contents-in, message-drops, with-result, without-result}
+use Rattle.rules.specs.Messages.{create-number, delete-number, set-number, get-number, all-alarms-number, alarms-next-number}
+use Rattle.rules.specs.Messages.{upload-number, upload-next-number, reset-number, not-supported, unknown-class, reply-to, Answer}
+use Rattle.rules.specs.Messages.{unless-refused, computing-messages}
 use Rattle.rules.specs.Commands.{new-entry, create, delete, set, get, reset, computing-commands}
 use Rattle.rules.specs.Walks.{upload, upload-next, all-alarms, alarms-next, computing-walks}
 use Rattle.rules.specs.Reports.{Outcome, answered, unless-dropped, report-attribute, report-alarm, computing-reports}
@@ -48,14 +51,7 @@ unfoldable pub is-repeat : List ℕ → Memory → Bool
 is-repeat m r = same (take 40 m) (r .command)
 
 unfoldable pub remember : List ℕ → List ℕ → State → State
-remember m r s = record {
-  table = s .table;
-  alarms = s .alarms;
-  alarm-number = s .alarm-number;
-  remembered = some (record { command = take 40 m; reply = r });
-  upload = s .upload;
-  walk = s .walk;
-}
+remember m r s = with-memory (some (record { command = take 40 m; reply = r })) s
 
 -- a command that is no repeat is answered, and remembered
 unfoldable pub answer-anew : Catalogue → State → List ℕ → State × Outcome
@@ -131,5 +127,7 @@ run-from-power-on cat l = run cat (fresh cat) l
 
 -- all the rules compute where this name is unfolded
 unfoldable pub computing-rules : ℕ
-unfolding computing-maps computing-bytes computing-masks computing-catalogue computing-state computing-legal computing-messages computing-commands computing-walks computing-reports perform first-results answer is-repeat remember answer-anew answer-again handle taken room-drops step fresh-table fresh run after run-from-power-on
+unfolding computing-maps computing-bytes computing-masks computing-catalogue computing-state computing-legal computing-messages
+    computing-commands computing-walks computing-reports perform first-results answer is-repeat remember answer-anew answer-again handle
+    taken room-drops step fresh-table fresh run after run-from-power-on
 computing-rules = 0

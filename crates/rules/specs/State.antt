@@ -107,9 +107,26 @@ change cat c i f t = record {
 unfoldable pub with-counter : Catalogue → ℕ → Table → Table
 with-counter cat n t = change cat ont-data 0 (overwrite ((1, n ∷ []) ∷ [])) t
 
-unfoldable pub with-table : Table → State → State
+-- ---- a state with one part changed
+
+abbrev pub with-table : Table → State → State
 with-table t s = record { table = t; alarms = s .alarms; alarm-number = s .alarm-number; remembered = s .remembered; upload = s .upload; walk = s .walk }
 
+abbrev pub with-alarms : Map Alarms → State → State
+with-alarms m s = record { table = s .table; alarms = m; alarm-number = s .alarm-number; remembered = s .remembered; upload = s .upload; walk = s .walk }
+
+abbrev pub with-alarm-number : ℕ → State → State
+with-alarm-number n s = record { table = s .table; alarms = s .alarms; alarm-number = n; remembered = s .remembered; upload = s .upload; walk = s .walk }
+
+abbrev pub with-memory : Option Memory → State → State
+with-memory r s = record { table = s .table; alarms = s .alarms; alarm-number = s .alarm-number; remembered = r; upload = s .upload; walk = s .walk }
+
+abbrev pub with-upload : Option Table → State → State
+with-upload u s = record { table = s .table; alarms = s .alarms; alarm-number = s .alarm-number; remembered = s .remembered; upload = u; walk = s .walk }
+
+abbrev pub with-walk : Option (Map Alarms) → State → State
+with-walk w s = record { table = s .table; alarms = s .alarms; alarm-number = s .alarm-number; remembered = s .remembered; upload = s .upload; walk = w }
+
 unfoldable pub computing-state : ℕ
-unfolding entry holds contents content how-many-name read-from read counter alarms-of overwrite change with-counter with-table
+unfolding entry holds contents content how-many-name read-from read counter alarms-of overwrite change with-counter
 computing-state = 0

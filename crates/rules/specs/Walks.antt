@@ -9,7 +9,7 @@ use Rattle.rules.specs.Maps.{_and_, given, keys, keep, gather, nth, put-
 use Rattle.rules.specs.Bytes.{two, bytes, bit-bytes}
 use Rattle.rules.specs.Masks.{mask, total}
 use Rattle.rules.specs.Catalogue.{Class, Catalogue, size-of, lead, ont-data}
-use Rattle.rules.specs.State.{Table, Alarms, State, class-of, number-of, entries}
+use Rattle.rules.specs.State.{Table, Alarms, State, class-of, number-of, entries, with-alarm-number, with-upload, with-walk}
 use Rattle.rules.specs.Commands.{values}
 use Rattle.rules.specs.Messages.{Answer}
 
@@ -59,10 +59,7 @@ frozen t = record { automatic = keep (λ k e. not (eqb (class-of k) ont-data)) (
 unfoldable pub upload : Catalogue → State → ℕ → ℕ → Answer
 upload cat s c i =
     let t : Table = frozen (s .table) in
-    if-ont-data c i s (
-      record { table = s .table; alarms = s .alarms; alarm-number = s .alarm-number; remembered = s .remembered; upload = some t; walk = s .walk },
-      bytes 2 (length (sections cat t)),
-    )
+    if-ont-data c i s (with-upload (some t) s, bytes 2 (length (sections cat t)))
 
 unfoldable pub upload-next : Catalogue → State → ℕ → ℕ → List ℕ → Answer
 upload-next cat s c i v =
@@ -71,11 +68,7 @@ upload-next cat s c i v =
 -- ---- Get all alarms
 
 unfoldable pub all-alarms : State → ℕ → ℕ → Answer
-all-alarms s c i =
-    if-ont-data c i s (
-      record { table = s .table; alarms = s .alarms; alarm-number = 0; remembered = s .remembered; upload = s .upload; walk = some (s .alarms) },
-      bytes 2 (length (s .alarms)),
-    )
+all-alarms s c i = if-ont-data c i s (with-walk (some (s .alarms)) (with-alarm-number 0 s), bytes 2 (length (s .alarms)))
 
 -- alarm 0 is the top bit of the first bitmap byte
 abbrev pub bitmap : Alarms → List ℕ
@@ -88,5 +81,6 @@ unfoldable pub alarms-next : State → ℕ → ℕ → List ℕ → Answer
 alarms-next s c i v = if-ont-data c i s (s, given (s .walk) [] (λ w. given (nth w (two v 0)) [] alarms-contents))
 
 unfoldable pub computing-walks : ℕ
-unfolding if-ont-data sections-from sections-of instances-of sections section-contents frozen upload upload-next all-alarms alarms-contents alarms-next
+unfolding if-ont-data sections-from sections-of instances-of sections section-contents frozen upload upload-next all-alarms alarms-contents
+    alarms-next
 computing-walks = 0

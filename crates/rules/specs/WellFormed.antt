@@ -8,7 +8,9 @@ use lib.Dec.{eqb, ltb, leb}
 use Rattle.rules.specs.Maps.{_and_, _or_, Map, keys, every, rising, among, all, empty}
 use Rattle.rules.specs.Bytes.{are-bytes}
 use Rattle.rules.specs.Masks.{total}
-use Rattle.rules.specs.Catalogue.{Verdict, fine, bad, asks, constant, copied, Source, stored, of-creator, count-of, Attribute, Creation, created, automatic, comes-with, Class, Catalogue, class, attribute, supported, size-of, is-stored, carried-numbers, is-created, automatic-numbers, leader, ont-data}
+use Rattle.rules.specs.Catalogue.{Verdict, fine, bad, asks, constant, copied, Source, stored, of-creator, count-of, Attribute}
+use Rattle.rules.specs.Catalogue.{Creation, created, automatic, comes-with, Class, Catalogue, class, attribute, supported, size-of}
+use Rattle.rules.specs.Catalogue.{is-stored, carried-numbers, is-created, automatic-numbers, leader, ont-data}
 use Rattle.rules.specs.State.{Table, Alarms}
 use Rattle.rules.specs.Legal.{passes, there-or-gone, legal-frozen, legal-walk}
 use Rattle.rules.specs.Messages.{create-number, delete-number, reset-number}
@@ -178,5 +180,7 @@ pub record WellFormed (cat : Catalogue) : Type 0 where
   pub create-if-created : every-class created-by-Create cat
 
 unfoldable pub computing-well-formed : ℕ
-unfolding implies numbered-1-to-16 of-1-to-25-bytes rights-only-if-stored never-W-and-L no-automatic-if-created unkept-bytes carried-bytes carries-at-most-32 reset-of-class-2-only readable-from read-in-one-of-two-ways comes-with-a-created-one class-number-in-two-bytes attributes-rise automatic-numbers-rise alarms-in-a-bitmap unkept-has-its-own-bit C-only-if-created created-by-Create
+unfolding implies numbered-1-to-16 of-1-to-25-bytes rights-only-if-stored never-W-and-L no-automatic-if-created unkept-bytes carried-bytes
+    carries-at-most-32 reset-of-class-2-only readable-from read-in-one-of-two-ways comes-with-a-created-one class-number-in-two-bytes
+    attributes-rise automatic-numbers-rise alarms-in-a-bitmap unkept-has-its-own-bit C-only-if-created created-by-Create
 computing-well-formed = 0

@@ -1,53 +1,28 @@
 -- Bytes of alarms are those of legal bitmaps exactly if they pass the test.
-use Prim.Native.Nat.{ℕ, zero, suc, _≤_, _<_}
+use Prim.Native.Nat.{ℕ, zero, suc, _≤_}
 use native.Mathlib.Omega.{arith}
 use mathlib.Core.Path.{_≡_, refl, sym, _∙_, ap}
 use mathlib.Core.Bool.{Bool, true, false, not}
 use mathlib.Core.Logic.{_≢_}
 use mathlib.Core.List.{List, [], _∷_, _++_, map}
-use lib.ListN.{length, take, drop, replicate, length-append}
-use lib.Seq.{take-at}
-use lib.Dec.{eqb}
-use Rattle.rules.specs.Maps.{_and_, Map, keys, every, all, same, computing-maps}
-use Rattle.rules.specs.Bytes.{byte, all-zero, are-bytes, bits-from, bits, computing-bytes}
+use lib.ListN.{length, take, drop, replicate}
+use Rattle.rules.specs.Maps.{_and_, Map, keys, every, all, same}
+use Rattle.rules.specs.Bytes.{byte, all-zero, are-bytes, bits-from, bits}
 use Rattle.rules.specs.Catalogue.{Class, Catalogue, class}
 use Rattle.rules.specs.State.{Alarms, class-of, number-of, alarms-of}
 use Rattle.rules.specs.Legal.{automatic-keys, declared-from, some-on, legal-bitmap, legal-bitmaps}
 use Rattle.rules.specs.WellFormed.{WellFormed}
-use Rattle.rules.proofs.Laws.{cases, never, both, and-true, or-left, true-and, not-false, eqb-true, eqb-eq}
+use Rattle.rules.proofs.Laws.{cases, never, both, and-true, or-left, true-and, not-false, eqb-true}
 use Rattle.rules.proofs.MapLaws.{Up, up-weaken, up-rising, find-here, find-past, find-below}
 use Rattle.rules.proofs.ByteLaws.{byte-small, bytes-drop}
 use Rattle.rules.proofs.Standing.{automatic-rise}
 use Rattle.store.specs.Layout.{slot-count, code-alarms, fits}
 use Rattle.store.specs.Decode.{read-alarms}
 use Rattle.store.proofs.Widths.{slots-are-enough}
-use Rattle.contents.specs.Tests.{alarm-byte-test, alarms-test}
-use Rattle.contents.proofs.Conjunctions.{and-assoc, past, last-of}
-use Rattle.contents.proofs.Computed.{all-below, below}
+use Rattle.class_tests.specs.Tests.{alarm-byte-test, alarms-test}
+use Rattle.rules.proofs.Conjunctions.{and-assoc, past, last-of}
 use Rattle.soundness.proofs.Blocks.{fill-take}
-
--- ---- a byte's bits
-
--- the bitmap of which a byte shows the first eight alarms
-abbrev pub shown-by : ℕ → Alarms
-shown-by x = bits 8 x ++ replicate 216 false
-
-pub byte-of-bits : (x : ℕ) → x < 256 → bits-from 0 (bits 8 x) ≡ x
-byte-of-bits x h = eqb-eq (bits-from 0 (bits 8 x)) x (below (λ x. eqb (bits-from 0 (bits 8 x)) x) 256 computed x h)
-  where
-    computed : all-below (λ x. eqb (bits-from 0 (bits 8 x)) x) 256 ≡ true
-    computed = unfold all-below computing-maps computing-bytes in refl
-
-length-bits : (n x : ℕ) → length (bits n x) ≡ n
-unfolding bits
-length-bits zero x = refl
-length-bits (suc n) x = ap suc (length-bits n x)
-
-pub length-shown : (x : ℕ) → length (shown-by x) ≡ 224
-length-shown x = rw (length-append (bits 8 x) (replicate 216 false), length-bits 8 x)
-
-pub byte-shown : (x : ℕ) → x < 256 → bits-from 0 (take 8 (shown-by x)) ≡ x
-byte-shown x h = rw (take-at (bits 8 x) (replicate 216 false) 8 (length-bits 8 x)) (byte-of-bits x h)
+use Rattle.store.proofs.AlarmBits.{shown-by, length-shown, byte-shown}
 
 -- ---- which alarms are on
 

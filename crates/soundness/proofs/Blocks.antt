@@ -10,8 +10,8 @@ use lib.Dec.{eqb}
 use Rattle.rules.specs.Maps.{_and_, all, same}
 use Rattle.rules.specs.Bytes.{two, bytes, fill, are-bytes, all-zero}
 use Rattle.rules.proofs.Laws.{both, and-true, bool-eq, eqb-true, eqb-eq, same-refl, true-and, ltb-lt}
-use Rattle.store.proofs.BytesBack.{fill-keeps}
-use Rattle.contents.proofs.Conjunctions.{and-assoc}
+use Rattle.rules.proofs.Conjunctions.{and-assoc}
+use Rattle.rules.proofs.ByteLaws.{fill-is}
 
 -- two blocks of one length, and what follows them
 pub same-append : (x y u v : List ℕ) → length x ≡ length u → same (x ++ y) (u ++ v) ≡ (same x u and same y v)
@@ -37,15 +37,7 @@ same-zeros (suc n) (x ∷ b) h = rw (same-zeros n b (omega (arith, h)))
     (λ p. and-true (eqb-true x 0 (sym (eqb-eq 0 x (both p .0)))) (both p .1))
     (λ p. and-true (eqb-true 0 x (sym (eqb-eq x 0 (both p .0)))) (both p .1)))
 
-pub take-zeros : (m n : ℕ) → m ≤ n → take {A = ℕ} m (replicate n 0) ≡ replicate m 0
-take-zeros zero n h = refl
-take-zeros (suc m) zero h = absurd (omega arith)
-take-zeros (suc m) (suc n) h = ap (λ (l : List ℕ). 0 ∷ l) (take-zeros m n (omega arith))
-
 -- what is filled, compared
-pub fill-is : (n : ℕ) (v : List ℕ) → length v ≤ n → fill n v ≡ v ++ replicate (n - length v) 0
-fill-is n v h = fill-keeps n v h ∙ ap (λ (z : List ℕ). v ++ z) (take-zeros (n - length v) n (omega arith))
-
 pub fill-front : (n w : ℕ) (v rest : List ℕ) → length v ≡ w → w + length rest ≤ n → fill n (v ++ rest) ≡ v ++ fill (n - w) rest
 fill-front n w v rest l h =
     let e : length (v ++ rest) ≡ w + length rest = length-append v rest ∙ ap (λ (k : ℕ). k + length rest) l in
@@ -62,9 +54,6 @@ fill-take n w x l h =
     let t : length (take w x) ≡ w = length-take-le w x (omega arith) in
     let d : length (drop w x) ≡ n - w = simp length-drop (omega arith) in
     rw (fill-is n (take w x) (omega arith), t, same-front (take w x) (replicate (n - w) 0) x w t (omega arith), same-refl (take w x), true-and, same-zeros (n - w) (drop w x) d)
-
-pub fill-nothing : (n : ℕ) → fill n [] ≡ replicate n 0
-fill-nothing n = take-zeros n n (omega arith)
 
 -- a number in two bytes, and again: the first four bytes are those that they were read from
 pub four-front : (r : List ℕ) → 4 ≤ length r → are-bytes r ≡ true → (x : List ℕ) → same (bytes 2 (two r 0) ++ bytes 2 (two r 2) ++ x) r ≡ same x (drop 4 r)

@@ -1,4 +1,3 @@
-pub mod Computed
 pub mod Blocks
 pub mod TableTested
 pub mod OptionalTested
@@ -9,4 +8,3 @@ pub mod StoreTested
 pub mod SoundTested
 pub mod Parts
 pub mod Turns
-pub mod Known

@@ -15,16 +15,15 @@ use Rattle.rules.specs.Walks.{frozen}
 use Rattle.rules.proofs.Laws.{both, and-true, or-right, bool-eq, eqb-true, same-refl, find-some, has-among, all-among}
 use Rattle.rules.proofs.MapLaws.{Each, each-find, find-append, find-kept}
 use Rattle.rules.proofs.Lookups.{known-class}
-use Rattle.rules.proofs.Standing.{stands, all-imp, automatic-keys-stand, all-self, key-back}
+use Rattle.rules.proofs.Standing.{stands, all-imp, automatic-keys-stand, all-self, key-back, stands-leads}
 use Rattle.store.specs.Layout.{ont-data-width, slot-count, slots-length, slot-width, table-length, entry-bytes, code-table, code-alarms, fits}
 use Rattle.store.specs.Decode.{read-entry, read-slots, read-table, read-live, read-alarms}
 use Rattle.store.proofs.Widths.{class-2-fits}
 use Rattle.store.proofs.TablesBack.{frozen-live, entry-live}
-use Rattle.contents.specs.Tests.{family-test, alarms-test}
+use Rattle.class_tests.specs.Tests.{family-test, alarms-test}
 use Rattle.soundness.specs.Tests.{table-test}
 use Rattle.soundness.proofs.TableTested.{keys-of-entry, keys-of-slots, entry-tested, table-tested}
 use Rattle.soundness.proofs.AlarmsTested.{bitmaps-tested}
-use Rattle.soundness.proofs.WalkTested.{stands-leads}
 
 module _ (cat : Catalogue) (wf : WellFormed cat) where
   -- ---- the instances of slots are there, whatever their contents
@@ -99,7 +98,8 @@ module _ (cat : Catalogue) (wf : WellFormed cat) where
             (λ p. let p₁ = both p in let q = both (p₁ .0) in let q₂ = both (q .1) in let q₃ = both (q₂ .1) in let q₄ = both (q₃ .1) in let q₅ = both (q₄ .1) in
             let v = both (q₅ .0) in let s = both (p₁ .1) in
             and-true (and-true (v .0) (s .0)) (and-true (and-true (both (q .0) .1) (and-true (q₂ .0) (and-true (q₃ .0) (and-true (q₄ .0) (and-true (v .1) (q₅ .1)))))) (s .1)))
-            (λ p. let p₁ = both p in let v = both (p₁ .0) in let w = both (p₁ .1) in let q = both (w .0) in let q₂ = both (q .1) in let q₃ = both (q₂ .1) in let q₄ = both (q₃ .1) in let q₅ = both (q₄ .1) in
+            (λ p. let p₁ = both p in let v = both (p₁ .0) in let w = both (p₁ .1) in let q = both (w .0) in let q₂ = both (q .1) in let q₃ = both (q₂ .1) in let q₄ = both (q₃ .1) in let q₅ =
+            both (q₄ .1) in
             and-true (and-true (and-true refl (q .0)) (and-true (q₂ .0) (and-true (q₃ .0) (and-true (q₄ .0) (and-true (and-true (v .0) (q₅ .0)) (q₅ .1)))))) (and-true (v .1) (w .1)))
 
     pub live-alarms-tested : fits cat ≡ true → (b : List ℕ) → length b ≡ slot-count → are-bytes b ≡ true

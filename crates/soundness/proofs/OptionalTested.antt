@@ -14,7 +14,7 @@ use Rattle.rules.proofs.Laws.{cases, both, and-true, bool-eq, true-and, eqb-tru
 use Rattle.rules.proofs.ByteLaws.{bytes-take, bytes-drop}
 use Rattle.store.specs.Layout.{memory-length, code-memory, code-optional}
 use Rattle.store.specs.Decode.{read-optional, read-memory}
-use Rattle.contents.proofs.Conjunctions.{past, last-of}
+use Rattle.rules.proofs.Conjunctions.{past, last-of}
 use Rattle.soundness.specs.Tests.{memory-test, optional-test}
 use Rattle.soundness.proofs.Blocks.{same-zeros}
 

@@ -5,7 +5,7 @@ use mathlib.Core.Path.{_≡_, refl, sym, _∙_, ap}
 use mathlib.Core.Bool.{Bool, not, _&&_}
 use mathlib.Core.List.{List, [], _∷_}
 use lib.ListN.{length, take, drop, getD}
-use lib.Seq.{drop-drop, take-take, getD-take}
+use lib.Seq.{drop-drop, take-take, getD-take, take-nil}
 use lib.Dec.{eqb}
 use Rattle.rules.specs.Maps.{_and_, is-some, first-that-applies}
 use Rattle.rules.specs.Bytes.{byte, two, all-zero}
@@ -14,9 +14,10 @@ use Rattle.rules.specs.Catalogue.{Catalogue}
 use Rattle.rules.specs.Legal.{automatic-keys, header-drops}
 use Rattle.rules.specs.Run.{store-length}
 use Rattle.rules.proofs.Laws.{cases, same?, eqb-true, eqb-false}
-use Rattle.store.specs.Layout.{part-lengths}
+use Rattle.store.specs.Layout.{part-lengths, slot-count, table-length, block-length, command-length, memory-length, nth-memory, nth-alarms, nth-walk, nth-table, nth-upload}
+use Rattle.store.specs.Layout.{memory-at, alarms-at, walk-at, live-at, table-at, upload-at}
 use Rattle.store.specs.Decode.{cut-parts}
-use Rattle.contents.specs.Tests.{alarms-test}
+use Rattle.class_tests.specs.Tests.{alarms-test}
 use Rattle.soundness.specs.Tests.{memory-test, optional-test, store-test, table-test}
 
 -- ---- the remembered command
@@ -38,10 +39,10 @@ pub memory-bytes : (b : List ℕ) → memory-test b ≡ (eqb (byte b 3) 0x0A && 
 unfolding memory-test header-drops
 memory-bytes b =
     rw (
-      getD-take 40 b 3 0 (omega arith),
-      getD-take 40 b 2 0 (omega arith),
-      getD-take 40 b 0 0 (omega arith),
-      getD-take 40 b 1 0 (omega arith),
+      getD-take command-length b 3 0 (omega arith),
+      getD-take command-length b 2 0 (omega arith),
+      getD-take command-length b 0 0 (omega arith),
+      getD-take command-length b 1 0 (omega arith),
       id-test (byte b 0) (byte b 1),
     )
     (none-of-three (eqb (byte b 3) 0x0A) (eqb (byte b 2 / 32) 2) (eqb (two b 0) 0))
@@ -59,6 +60,14 @@ module _ (t : List ℕ → Bool) (b : List ℕ) where
 
 -- ---- where the parts lie
 
+-- what stands behind the first byte of a block
+behind-front : (at n m : ℕ) (s : List ℕ) → m ≡ suc n → take n (drop (at + 1) s) ≡ drop 1 (take m (drop at s))
+behind-front at n m s e = rw (e, ← drop-drop 1 at s) (behind (drop at s))
+  where
+    behind : (l : List ℕ) → take n (drop 1 l) ≡ drop 1 (take (suc n) l)
+    behind [] = take-nil n
+    behind (x ∷ l) = refl
+
 part-lies : (l b : List ℕ) (i : ℕ) → i < length l → getD (cut-parts l b) i [] ≡ take (getD l i 0) (drop (total (λ n. n) (take i l)) b)
 unfolding cut-parts total
 part-lies [] b i h = absurd (omega arith)
@@ -72,18 +81,18 @@ front-of (suc at) n (suc m) [] h = refl
 front-of (suc at) n (suc m) (x ∷ s) h = front-of at n m s (omega arith)
 
 pub store-parts : (cat : Catalogue) (s : List ℕ) → store-test cat (take store-length s)
-    ≡ (optional-test memory-test (take 89 (drop 2 s))
-    and (alarms-test cat (automatic-keys cat) (take 4 (drop 91 s))
-    and (optional-test (alarms-test cat (automatic-keys cat)) (take 5 (drop 95 s))
-    and (table-test cat (take 1621 (drop 101 s))
-    and optional-test (table-test cat) (take 1622 (drop 1722 s))))))
+    ≡ (optional-test memory-test (take (1 + memory-length) (drop memory-at s))
+    and (alarms-test cat (automatic-keys cat) (take slot-count (drop alarms-at s))
+    and (optional-test (alarms-test cat (automatic-keys cat)) (take (1 + slot-count) (drop walk-at s))
+    and (table-test cat (drop 1 (take block-length (drop live-at s)))
+    and optional-test (table-test cat) (take block-length (drop upload-at s))))))
 unfolding store-test total
 store-parts cat s =
     let b : List ℕ = take store-length s in
     rw (
-      part-lies part-lengths b 2 (omega arith) ∙ front-of 2 89 store-length s (omega arith),
-      part-lies part-lengths b 3 (omega arith) ∙ front-of 91 4 store-length s (omega arith),
-      part-lies part-lengths b 4 (omega arith) ∙ front-of 95 5 store-length s (omega arith),
-      part-lies part-lengths b 6 (omega arith) ∙ front-of 101 1621 store-length s (omega arith),
-      part-lies part-lengths b 7 (omega arith) ∙ front-of 1722 1622 store-length s (omega arith),
+      part-lies part-lengths b nth-memory (omega arith) ∙ front-of memory-at (1 + memory-length) store-length s (omega arith),
+      part-lies part-lengths b nth-alarms (omega arith) ∙ front-of alarms-at slot-count store-length s (omega arith),
+      part-lies part-lengths b nth-walk (omega arith) ∙ front-of walk-at (1 + slot-count) store-length s (omega arith),
+      part-lies part-lengths b nth-table (omega arith) ∙ front-of table-at table-length store-length s (omega arith) ∙ behind-front live-at table-length block-length s (omega arith),
+      part-lies part-lengths b nth-upload (omega arith) ∙ front-of upload-at block-length store-length s (omega arith),
     )

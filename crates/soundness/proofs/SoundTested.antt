@@ -1,92 +1,52 @@
--- A store is sound exactly if it is long enough, names one of the two products and passes that product's test.
-use Prim.Native.Nat.{ℕ, _≤_}
+-- A store is sound exactly if it is long enough, names a product that is built and passes that product's test.
+use Prim.Native.Nat.{ℕ, _≤_, _<_}
 use native.Mathlib.Omega.{arith}
-use mathlib.Core.Path.{_≡_, refl, _∙_}
-use mathlib.Core.Bool.{Bool, true, false, cond}
-use mathlib.Core.Option.{none, some}
-use mathlib.Core.List.{List, [], _∷_}
-use lib.ListN.{length, take, drop-of-length-le}
+use mathlib.Core.Path.{_≡_, _∙_}
+use mathlib.Core.Bool.{true, false}
+use mathlib.Core.Option.{none}
+use mathlib.Core.List.{List}
+use lib.ListN.{length, take}
 use lib.Seq.{length-take-le, getD-take}
-use lib.Dec.{eqb, ltb}
-use Rattle.rules.specs.Maps.{_and_, find, is-some, same, all}
-use Rattle.rules.specs.Bytes.{byte, are-bytes, all-zero}
-use Rattle.rules.specs.Catalogue.{Catalogue, family, ont-data}
+use lib.Dec.{ltb}
+use Rattle.rules.specs.Maps.{_and_, find, is-some, same}
+use Rattle.rules.specs.Bytes.{byte, are-bytes}
 use Rattle.rules.specs.State.{State}
 use Rattle.rules.specs.Legal.{legal-state}
 use Rattle.rules.specs.Run.{store-length}
-use Rattle.rules.specs.Products.{Small, Large, built-products, ont-data-class}
-use Rattle.rules.proofs.Laws.{cases, ltb-le, eqb-eq}
+use Rattle.rules.specs.Products.{built-products}
+use Rattle.rules.proofs.Laws.{cases, lt-ltb, le-ltb}
 use Rattle.rules.proofs.ByteLaws.{bytes-take}
 use Rattle.store.specs.Layout.{encode}
 use Rattle.store.specs.Decode.{read-state, decode-as, decode, sound}
-use Rattle.store.specs.Entries.{computing-store}
-use Rattle.store.proofs.Built.{built-products-fit}
-use Rattle.contents.specs.Tests.{family-test}
-use Rattle.contents.proofs.Conjunctions.{past}
-use Rattle.contents.proofs.Classes.{counter-width, counter-legal}
+use Rattle.class_tables.specs.declared.Product.{Product}
+use Rattle.class_tables.specs.Built.{cat-of, product-of}
+use Rattle.class_tables.proofs.EveryProduct.{product-found, well-formed-of, fits-of}
+use Rattle.class_tests.proofs.Entries.{any-counter}
 use Rattle.soundness.specs.Tests.{store-test}
-use Rattle.soundness.proofs.StoreTested.{AnyCounter, store-tested}
+use Rattle.soundness.proofs.StoreTested.{store-tested}
 
--- ---- class 2: any byte is a legal counter
+-- a store of one product
+module _ (pr : Product) (b : List ℕ) (bs : are-bytes b ≡ true) (long : store-length ≤ length b) where
+  abbrev front : List ℕ
+  front = take store-length b
 
-counter-alone : (cat : Catalogue) → family cat ont-data ≡ (2, ont-data-class) ∷ [] → AnyCounter cat
-unfolding family-test
-counter-alone cat f x len bs =
-    rw (f, counter-width, counter-legal cat x (omega (arith, len)) bs, drop-of-length-le x {i = 1} (omega (arith, len)))
-    (past (unfold all-zero all in refl))
+  decoded-tested : byte b 0 ≡ product-of pr → is-some (decode-as (product-of pr) (cat-of pr) front) ≡ store-test (cat-of pr) front
+  unfolding decode-as
+  decoded-tested h =
+      let s : State = read-state (cat-of pr) front in
+      let first : byte front 0 ≡ product-of pr = getD-take store-length b 0 0 (omega arith) ∙ h in
+      let t = store-tested (cat-of pr) (well-formed-of pr) (fits-of pr) (any-counter pr) front (length-take-le store-length b long) (bytes-take store-length b bs) in
+      rw (← t, first) (cases (legal-state (cat-of pr) s and same (encode (product-of pr) (cat-of pr) s) front) (λ y. rw y) (λ y. rw y))
 
-pub small-counter : AnyCounter Small
-small-counter = counter-alone Small (unfold computing-store in refl)
+  pub product-tested : byte b 0 ≡ product-of pr → sound built-products b ≡ store-test (cat-of pr) front
+  unfolding sound decode
+  product-tested h = rw (le-ltb (length b) store-length long, h, product-found pr) (decoded-tested h)
 
-pub large-counter : AnyCounter Large
-large-counter = counter-alone Large (unfold computing-store in refl)
-
--- ---- the products by their numbers
-
-small-found : find 1 built-products ≡ some Small
-unfolding built-products find
-small-found = refl
-
-large-found : find 2 built-products ≡ some Large
-unfolding built-products find
-large-found = refl
-
-none-found : (p : ℕ) → eqb p 1 ≡ false → eqb p 2 ≡ false → find p built-products ≡ none
-unfolding built-products find
-none-found p h g = rw (h, g)
-
--- ---- one product
-
-decoded-tested : (p : ℕ) (cat : Catalogue) → find p built-products ≡ some cat → AnyCounter cat
-    → (b : List ℕ) → length b ≡ store-length → are-bytes b ≡ true → byte b 0 ≡ p → is-some (decode-as p cat b) ≡ store-test cat b
-unfolding decode-as
-decoded-tested p cat e any b len bs h =
-    let s : State = read-state cat b in
-    let t = store-tested cat (built-products-fit .well-formed p cat e) (built-products-fit .fit p cat e) any b len bs in
-    rw (← t, h) (cases (legal-state cat s and same (encode p cat s) b) (λ y. rw y) (λ y. rw y))
-
--- ---- the store
-
-abbrev pub sound-test : List ℕ → Bool
-sound-test b =
-    cond (ltb (length b) store-length) false
-    (cond (eqb (byte b 0) 1) (store-test Small (take store-length b))
-    (cond (eqb (byte b 0) 2) (store-test Large (take store-length b)) false))
-
-pub sound-tested : (b : List ℕ) → are-bytes b ≡ true → sound built-products b ≡ sound-test b
+-- one of no product, and one that is too short
+pub no-product : (b : List ℕ) → find (byte b 0) built-products ≡ none → sound built-products b ≡ false
 unfolding sound decode
-sound-tested b bs = cases (ltb (length b) store-length)
-    (λ t. rw t)
-    (λ t.
-    let n : store-length ≤ length b = ltb-le (length b) store-length t in
-    let x : List ℕ = take store-length b in
-    let l : length x ≡ store-length = length-take-le store-length b n in
-    let f : byte x 0 ≡ byte b 0 = getD-take store-length b 0 0 (omega arith) in
-    let y : are-bytes x ≡ true = bytes-take store-length b bs in
-    rw t (cases (eqb (byte b 0) 1)
-    (λ u. let e : byte b 0 ≡ 1 = eqb-eq (byte b 0) 1 u in
-    rw (u, e, small-found) (decoded-tested 1 Small small-found small-counter x l y (f ∙ e)))
-    (λ u. cases (eqb (byte b 0) 2)
-    (λ v. let e : byte b 0 ≡ 2 = eqb-eq (byte b 0) 2 v in
-    rw (u, v, e, large-found) (decoded-tested 2 Large large-found large-counter x l y (f ∙ e)))
-    (λ v. rw (u, v, none-found (byte b 0) u v)))))
+no-product b h = cases (ltb (length b) store-length) (λ t. rw t) (λ t. rw (t, h))
+
+pub too-short : (b : List ℕ) → length b < store-length → sound built-products b ≡ false
+unfolding sound decode
+too-short b h = rw (lt-ltb (length b) store-length h)

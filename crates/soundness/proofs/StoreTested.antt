@@ -17,11 +17,12 @@ use Rattle.rules.specs.Run.{store-length}
 use Rattle.rules.specs.Walks.{frozen}
 use Rattle.rules.proofs.Laws.{cases, true-false, both, and-true, bool-eq, true-and, lt-ltb, eqb-true}
 use Rattle.rules.proofs.ByteLaws.{bytes-none, bytes-take, bytes-drop, byte-small}
-use Rattle.store.specs.Layout.{ont-data-width, slot-count, table-length, memory-length, part-lengths, entry-bytes, code-table, code-alarms, code-memory, code-optional, parts, encode, fits}
-use Rattle.store.specs.Decode.{read-alarms, read-memory, read-table, read-state, cut-parts, part}
+use Rattle.store.specs.Layout.{ont-data-width, slot-count, table-length, memory-length, part-lengths, entry-bytes, code-table, code-alarms, code-memory, code-optional, parts}
+use Rattle.store.specs.Layout.{encode, fits, nth-product, nth-alarm-number, nth-memory, nth-alarms, nth-walk, nth-ont-data, nth-table, nth-upload}
+use Rattle.store.specs.Decode.{read-alarms, read-memory, read-table, read-state, cut-parts, nth-part}
 use Rattle.store.proofs.Parts.{Remembers, each-part-has-its-length, parts-lengths}
-use Rattle.contents.specs.Tests.{family-test, alarms-test}
-use Rattle.contents.proofs.Conjunctions.{and-end}
+use Rattle.class_tests.specs.Tests.{family-test, alarms-test}
+use Rattle.rules.proofs.Conjunctions.{and-end}
 use Rattle.soundness.specs.Tests.{memory-test, table-test, optional-test, store-test}
 use Rattle.soundness.proofs.Blocks.{same-front}
 use Rattle.soundness.proofs.TableTested.{table-tested}
@@ -74,51 +75,54 @@ part-bytes (x ∷ l) b zero h = bytes-take x b h
 part-bytes (x ∷ l) b (suc i) h = part-bytes l (drop x b) i (bytes-drop x b h)
 
 module _ (cat : Catalogue) (wf : WellFormed cat) (f : fits cat ≡ true) (any : AnyCounter cat) (b : List ℕ) (len : length b ≡ store-length) (bs : are-bytes b ≡ true) where
-  part-has : (i : ℕ) → i < 8 → length (part i b) ≡ getD part-lengths i 0
+  part-has : (i : ℕ) → i < length part-lengths → length (nth-part i b) ≡ getD part-lengths i 0
   part-has i h = part-length part-lengths b i (rw parts-lengths (omega (arith, len))) h
 
-  are-part : (i : ℕ) → are-bytes (part i b) ≡ true
+  are-part : (i : ℕ) → are-bytes (nth-part i b) ≡ true
   are-part i = part-bytes part-lengths b i bs
 
   -- ---- a law for each part, of the state that is read
 
-  memory : (given (read-state cat b .remembered) true legal-memory and same (code-optional memory-length code-memory (read-state cat b .remembered)) (part 2 b))
-      ≡ optional-test memory-test (part 2 b)
+  memory : (given (read-state cat b .remembered) true legal-memory and same (code-optional memory-length code-memory (read-state cat b .remembered)) (nth-part nth-memory b))
+      ≡ optional-test memory-test (nth-part nth-memory b)
   unfolding read-state
-  memory = optional-tested memory-length code-memory read-memory legal-memory memory-test memory-tested (part 2 b) (part-has 2 (omega arith)) (are-part 2)
+  memory = optional-tested memory-length code-memory read-memory legal-memory memory-test memory-tested (nth-part nth-memory b) (part-has nth-memory (omega arith)) (are-part nth-memory)
 
-  alarms : (legal-bitmaps cat (holds cat (read-state cat b .table)) (read-state cat b .alarms) and same (code-alarms cat (read-state cat b .alarms)) (part 3 b))
-      ≡ alarms-test cat (automatic-keys cat) (part 3 b)
+  alarms : (legal-bitmaps cat (holds cat (read-state cat b .table)) (read-state cat b .alarms) and same (code-alarms cat (read-state cat b .alarms)) (nth-part nth-alarms b))
+      ≡ alarms-test cat (automatic-keys cat) (nth-part nth-alarms b)
   unfolding read-state
-  alarms = live-alarms-tested cat wf (part 5 b) (part 6 b) f (part 3 b) (part-has 3 (omega arith)) (are-part 3)
+  alarms = live-alarms-tested cat wf (nth-part nth-ont-data b) (nth-part nth-table b) f (nth-part nth-alarms b) (part-has nth-alarms (omega arith)) (are-part nth-alarms)
 
-  walk : (given (read-state cat b .walk) true (legal-walk cat) and same (code-optional slot-count (code-alarms cat) (read-state cat b .walk)) (part 4 b))
-      ≡ optional-test (alarms-test cat (automatic-keys cat)) (part 4 b)
+  walk : (given (read-state cat b .walk) true (legal-walk cat) and same (code-optional slot-count (code-alarms cat) (read-state cat b .walk)) (nth-part nth-walk b))
+      ≡ optional-test (alarms-test cat (automatic-keys cat)) (nth-part nth-walk b)
   unfolding read-state
   walk =
       let l : List ℕ = automatic-keys cat in
-      optional-tested slot-count (code-alarms cat) (read-alarms l) (legal-walk cat) (alarms-test cat l) (walk-tested cat wf f) (part 4 b) (part-has 4 (omega arith)) (are-part 4)
+      optional-tested slot-count (code-alarms cat) (read-alarms l) (legal-walk cat) (alarms-test cat l) (walk-tested cat wf f) (nth-part nth-walk b) (part-has nth-walk (omega arith))
+      (are-part nth-walk)
 
   table : (legal-live cat (read-state cat b .table)
-      and (same (fill ont-data-width (entry-bytes (entry (key ont-data 0) (read-state cat b .table)))) (part 5 b) and same (code-table (frozen (read-state cat b .table))) (part 6 b)))
-      ≡ table-test cat (part 6 b)
+      and (same (fill ont-data-width (entry-bytes (entry (key ont-data 0) (read-state cat b .table)))) (nth-part nth-ont-data b) and same (code-table (frozen (read-state cat b .table)))
+      (nth-part nth-table b)))
+      ≡ table-test cat (nth-part nth-table b)
   unfolding read-state
-  table = live-tested cat wf (part 5 b) (part 6 b) f (part-has 5 (omega arith)) (part-has 6 (omega arith)) (are-part 6)
-      ∙ rw (any (part 5 b) (part-has 5 (omega arith)) (are-part 5)) (true-and (table-test cat (part 6 b)))
+  table = live-tested cat wf (nth-part nth-ont-data b) (nth-part nth-table b) f (part-has nth-ont-data (omega arith)) (part-has nth-table (omega arith)) (are-part nth-table)
+      ∙ rw (any (nth-part nth-ont-data b) (part-has nth-ont-data (omega arith)) (are-part nth-ont-data)) (true-and (table-test cat (nth-part nth-table b)))
 
-  upload : (given (read-state cat b .upload) true (legal-frozen cat) and same (code-optional table-length code-table (read-state cat b .upload)) (part 7 b))
-      ≡ optional-test (table-test cat) (part 7 b)
+  upload : (given (read-state cat b .upload) true (legal-frozen cat) and same (code-optional table-length code-table (read-state cat b .upload)) (nth-part nth-upload b))
+      ≡ optional-test (table-test cat) (nth-part nth-upload b)
   unfolding read-state
-  upload = optional-tested table-length code-table (read-table cat) (legal-frozen cat) (table-test cat) (table-tested cat wf f) (part 7 b) (part-has 7 (omega arith)) (are-part 7)
+  upload = optional-tested table-length code-table (read-table cat) (legal-frozen cat) (table-test cat) (table-tested cat wf f) (nth-part nth-upload b) (part-has nth-upload (omega arith))
+      (are-part nth-upload)
 
   -- product and alarm number are always the bytes that they were read from
-  product : same (byte b 0 ∷ []) (part 0 b) ≡ true
+  product : same (byte b 0 ∷ []) (nth-part nth-product b) ≡ true
   unfolding cut-parts
-  product = rw (getD-take 1 b 0 0 (omega arith)) at (one-byte (part 0 b) (part-has 0 (omega arith)))
+  product = rw (getD-take 1 b 0 0 (omega arith)) at (one-byte (nth-part nth-product b) (part-has nth-product (omega arith)))
 
   alarm-number : is-byte (read-state cat b .alarm-number) ≡ true
   unfolding read-state
-  alarm-number = lt-ltb (byte (part 1 b) 0) 256 (byte-small (part 1 b) 0 (are-part 1))
+  alarm-number = lt-ltb (byte (nth-part nth-alarm-number b) 0) 256 (byte-small (nth-part nth-alarm-number b) 0 (are-part nth-alarm-number))
 
   -- ---- all of them
 
@@ -130,19 +134,19 @@ module _ (cat : Catalogue) (wf : WellFormed cat) (f : fits cat ≡ true) (any : 
       same-parts l b (rw (n, parts-lengths) len) ∙ ap (λ (m : List ℕ). each-same l (cut-parts m b)) n
 
   compared : each-same (parts (byte b 0) cat (read-state cat b)) (cut-parts part-lengths b)
-      ≡ (same (code-optional memory-length code-memory (read-state cat b .remembered)) (part 2 b)
-      and same (code-alarms cat (read-state cat b .alarms)) (part 3 b)
-      and same (code-optional slot-count (code-alarms cat) (read-state cat b .walk)) (part 4 b)
-      and same (fill ont-data-width (entry-bytes (entry (key ont-data 0) (read-state cat b .table)))) (part 5 b)
-      and same (code-table (frozen (read-state cat b .table))) (part 6 b)
-      and same (code-optional table-length code-table (read-state cat b .upload)) (part 7 b))
+      ≡ (same (code-optional memory-length code-memory (read-state cat b .remembered)) (nth-part nth-memory b)
+      and same (code-alarms cat (read-state cat b .alarms)) (nth-part nth-alarms b)
+      and same (code-optional slot-count (code-alarms cat) (read-state cat b .walk)) (nth-part nth-walk b)
+      and same (fill ont-data-width (entry-bytes (entry (key ont-data 0) (read-state cat b .table)))) (nth-part nth-ont-data b)
+      and same (code-table (frozen (read-state cat b .table))) (nth-part nth-table b)
+      and same (code-optional table-length code-table (read-state cat b .upload)) (nth-part nth-upload b))
   unfolding each-same parts cut-parts read-state
   compared = rw (
     product,
-    one-byte (part 1 b) (part-has 1 (omega arith)),
+    one-byte (nth-part nth-alarm-number b) (part-has nth-alarm-number (omega arith)),
     true-and,
     true-and,
-    and-end (same (code-optional table-length code-table (read-state cat b .upload)) (part 7 b)),
+    and-end (same (code-optional table-length code-table (read-state cat b .upload)) (nth-part nth-upload b)),
   )
 
   pub store-tested : (legal-state cat (read-state cat b) and same (encode (byte b 0) cat (read-state cat b)) b) ≡ store-test cat b
@@ -154,12 +158,12 @@ module _ (cat : Catalogue) (wf : WellFormed cat) (f : fits cat ≡ true) (any : 
       (sorted
       (legal-live cat (s .table)) (legal-bitmaps cat (holds cat (s .table)) (s .alarms)) (given (s .remembered) true legal-memory)
       (given (s .upload) true (legal-frozen cat)) (given (s .walk) true (legal-walk cat))
-      (same (code-optional memory-length code-memory (s .remembered)) (part 2 b))
-      (same (code-alarms cat (s .alarms)) (part 3 b))
-      (same (code-optional slot-count (code-alarms cat) (s .walk)) (part 4 b))
-      (same (fill ont-data-width (entry-bytes (entry (key ont-data 0) (s .table)))) (part 5 b))
-      (same (code-table (frozen (s .table))) (part 6 b))
-      (same (code-optional table-length code-table (s .upload)) (part 7 b))))
+      (same (code-optional memory-length code-memory (s .remembered)) (nth-part nth-memory b))
+      (same (code-alarms cat (s .alarms)) (nth-part nth-alarms b))
+      (same (code-optional slot-count (code-alarms cat) (s .walk)) (nth-part nth-walk b))
+      (same (fill ont-data-width (entry-bytes (entry (key ont-data 0) (s .table)))) (nth-part nth-ont-data b))
+      (same (code-table (frozen (s .table))) (nth-part nth-table b))
+      (same (code-optional table-length code-table (s .upload)) (nth-part nth-upload b))))
       (λ r. bool-eq _ _ (λ p. true-false (both (both (both (both (both p .0) .1) .1) .1) .0) r) (λ p. true-false (both (memory ∙ both p .0) .0) r))
     where
       sorted : (l a m u w s₂ s₃ s₄ s₅ s₆ s₇ : Bool)

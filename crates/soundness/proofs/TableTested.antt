@@ -13,21 +13,22 @@ use Rattle.rules.specs.Masks.{total}
 use Rattle.rules.specs.Catalogue.{Class, Catalogue, class, size-of, stored-numbers, is-created, family}
 use Rattle.rules.specs.State.{Entry, class-of, number-of}
 use Rattle.rules.specs.Legal.{legal-contents, legal-entry, legal-table, legal-frozen, automatic-keys}
-use Rattle.rules.specs.Commands.{cut}
 use Rattle.rules.specs.WellFormed.{WellFormed}
 use Rattle.rules.proofs.Laws.{cases, never, both, and-true, bool-eq, true-and, eqb-true, leb-le, le-leb, same-refl}
 use Rattle.rules.proofs.MapLaws.{Up, rising-up, up-rising, Each, length-gather}
-use Rattle.rules.proofs.ByteLaws.{length-fill, byte-small, two-small, bytes-take, bytes-drop}
+use Rattle.rules.proofs.ByteLaws.{length-fill, byte-small, two-small, bytes-take, bytes-drop, fill-nothing}
 use Rattle.rules.proofs.Families.{family-classes}
 use Rattle.rules.proofs.Standing.{stands, automatic-keys-stand, key-class, key-number}
-use Rattle.store.specs.Layout.{slot-width, slots-length, place-width, place-length, places-length, table-length, contents-bytes, entry-bytes, slot, place, code-table, contents-width, family-width, fits}
+use Rattle.store.specs.Layout.{slot-width, slots-length, place-width, place-length, places-length, table-length, entry-bytes, slot, place, code-table, contents-width}
+use Rattle.store.specs.Layout.{family-width, fits}
 use Rattle.store.specs.Decode.{read-contents, read-entry, read-slots, read-place, read-places, read-table}
 use Rattle.store.proofs.Widths.{slots-are-enough, places-are-enough, slot-fits, place-fits}
 use Rattle.store.proofs.TablesBack.{slot-length, place-has-its-length}
-use Rattle.contents.specs.Tests.{family-test, slots-test}
-use Rattle.contents.proofs.Conjunctions.{and-assoc, and-swap}
+use Rattle.class_tests.specs.Tests.{family-test, slots-test}
+use Rattle.rules.proofs.Conjunctions.{and-assoc, and-swap}
 use Rattle.soundness.specs.Tests.{key-in, place-test, places-test, table-test}
-use Rattle.soundness.proofs.Blocks.{same-front, same-zeros, four-front, fill-nothing, fill-front, fill-take}
+use Rattle.soundness.proofs.Blocks.{same-front, same-zeros, four-front, fill-front, fill-take}
+use Rattle.store.proofs.ContentsBack.{bytes-of-cut}
 
 -- ---- keys that rise, from a bound on
 
@@ -49,11 +50,6 @@ pub rising-rises : (l : List ℕ) → rising l ≡ rises-from 0 l
 rising-rises l = bool-eq (rising l) (rises-from 0 l) (λ h. up-rises 0 l (rising-up l h)) (λ h. up-rising 0 l (rises-up 0 l h))
 
 -- ---- contents and entries: what is read, put together again
-
-pub bytes-of-cut : (size : ℕ → ℕ) (l b : List ℕ) → contents-bytes (cut size l b) ≡ take (total size l) b
-unfolding contents-bytes gather cut total
-bytes-of-cut size [] b = refl
-bytes-of-cut size (n ∷ l) b = rw (take-add (size n) (total size l) b) (ap (λ (x : List ℕ). take (size n) b ++ x) (bytes-of-cut size l (drop (size n) b)))
 
 pub bytes-of-entry : (fam : Map Class) (b : List ℕ) → entry-bytes (read-entry fam b) ≡ take (family-width fam) b
 unfolding entry-bytes gather read-entry family-width read-contents contents-width

@@ -8,25 +8,20 @@ use lib.ListN.{length, drop}
 use lib.Dec.{leb}
 use Rattle.rules.specs.Maps.{_and_, Map, keys, keep, all, among, distinct, same}
 use Rattle.rules.specs.Bytes.{byte, are-bytes}
-use Rattle.rules.specs.Catalogue.{Creation, created, automatic, comes-with, Catalogue, class, known, is-created, automatic-numbers, lead, leader}
+use Rattle.rules.specs.Catalogue.{Creation, created, automatic, comes-with, Catalogue, class, known, is-created, automatic-numbers, leader}
 use Rattle.rules.specs.State.{Alarms, class-of, number-of}
 use Rattle.rules.specs.Legal.{may-be-there, there-or-gone, automatic-keys, some-on, legal-bitmaps, walked-entries, legal-walk}
 use Rattle.rules.specs.WellFormed.{WellFormed}
 use Rattle.rules.proofs.Laws.{cases, never, both, and-true, le-leb}
-use Rattle.rules.proofs.Standing.{stands, all-imp, automatic-keys-stand, stands-not-created}
+use Rattle.rules.proofs.Standing.{stands, all-imp, automatic-keys-stand, stands-not-created, stands-leads}
 use Rattle.store.specs.Layout.{slot-count, code-alarms, fits}
 use Rattle.store.specs.Decode.{read-alarms}
-use Rattle.contents.specs.Tests.{alarms-test}
-use Rattle.contents.proofs.Conjunctions.{and-end}
-use Rattle.soundness.proofs.AlarmsTested.{shown-by, bitmaps-tested}
+use Rattle.class_tests.specs.Tests.{alarms-test}
+use Rattle.rules.proofs.Conjunctions.{and-end}
+use Rattle.store.proofs.AlarmBits.{shown-by}
+use Rattle.soundness.proofs.AlarmsTested.{bitmaps-tested}
 
 -- ---- instances that are there by themselves
-
-pub automatic-leads : (c : ℕ) (x : Creation) (i : ℕ) → among i (automatic-numbers x) ≡ true → lead c x ≡ c
-unfolding among
-automatic-leads c created i h = never h
-automatic-leads c (automatic l) i h = refl
-automatic-leads c (comes-with d) i h = never h
 
 automatic-there : (x : Creation) (i : ℕ) → among i (automatic-numbers x) ≡ true → may-be-there x i ≡ true
 unfolding among
@@ -35,9 +30,6 @@ automatic-there (automatic l) i h = h
 automatic-there (comes-with d) i h = never h
 
 module _ (cat : Catalogue) (wf : WellFormed cat) where
-  pub stands-leads : (k : ℕ) → stands cat k ≡ true → leader cat (class-of k) ≡ class-of k
-  stands-leads k h = automatic-leads (class-of k) (class cat (class-of k) .creation) (number-of k) (both (both h .1) .1)
-
   standing-there : all (λ k. known cat (class-of k) and there-or-gone cat (class-of k) (number-of k)) (automatic-keys cat) ≡ true
   standing-there = all-imp (stands cat) (λ k. known cat (class-of k) and there-or-gone cat (class-of k) (number-of k))
       (λ k h. and-true (both h .0) (automatic-there (class cat (class-of k) .creation) (number-of k) (both (both h .1) .1)))
@@ -52,7 +44,7 @@ module _ (cat : Catalogue) (wf : WellFormed cat) where
   none-made [] b h = refl
   none-made (k ∷ l) b h =
       let r : keep made (read-alarms l (drop 1 b)) ≡ [] = none-made l (drop 1 b) (both h .1) in
-      let n : is-created (class cat (leader cat (class-of k)) .creation) ≡ false = rw (stands-leads k (both h .0)) (stands-not-created cat wf k (both h .0)) in
+      let n : is-created (class cat (leader cat (class-of k)) .creation) ≡ false = rw (stands-leads cat wf k (both h .0)) (stands-not-created cat wf k (both h .0)) in
       cases (some-on (shown-by (byte b 0))) (λ t. rw (t, n) r) (λ t. rw t r)
 
   no-walked-entries : (b : List ℕ) → leb (length (walked-entries cat (read-alarms (automatic-keys cat) b))) (cat .places) ≡ true

@@ -8,9 +8,10 @@ use Rattle.rules.specs.Maps.{_and_, is-some, first-that-applies}
 use Rattle.rules.specs.Bytes.{byte, two, all-zero}
 use Rattle.rules.specs.Catalogue.{Catalogue, key}
 use Rattle.rules.specs.Legal.{automatic-keys, header-drops}
-use Rattle.store.specs.Layout.{slots-length, place-length}
-use Rattle.store.specs.Decode.{part}
-use Rattle.contents.specs.Tests.{slots-test, entry-test, alarms-test}
+use Rattle.store.specs.Layout.{slots-length, key-length, place-length, command-length, nth-memory, nth-alarms, nth-walk, nth-table}
+use Rattle.store.specs.Layout.{nth-upload}
+use Rattle.store.specs.Decode.{nth-part}
+use Rattle.class_tests.specs.Tests.{slots-test, entry-test, alarms-test}
 
 -- ---- a table
 
@@ -20,7 +21,7 @@ key-in r = key (two r 0) (two r 2)
 
 -- a place whose key is `low` or more
 unfoldable pub place-test : Catalogue → ℕ → List ℕ → Bool
-place-test cat low r = leb low (key-in r) and entry-test cat (two r 0) (drop 4 r)
+place-test cat low r = leb low (key-in r) and entry-test cat (two r 0) (drop key-length r)
 
 -- so many places, whose keys rise, then zeros
 unfoldable pub places-test : Catalogue → ℕ → ℕ → List ℕ → Bool
@@ -36,7 +37,7 @@ table-test cat b = leb (byte b 0) (cat .places)
 
 -- the command's header; the rest of it, and the reply, may be anything
 unfoldable pub memory-test : List ℕ → Bool
-memory-test b = not (is-some (first-that-applies (header-drops (take 40 b))))
+memory-test b = not (is-some (first-that-applies (header-drops (take command-length b))))
 
 -- ---- the store
 
@@ -44,10 +45,10 @@ memory-test b = not (is-some (first-that-applies (header-drops (take 40 b))))
 unfoldable pub optional-test : (List ℕ → Bool) → List ℕ → Bool
 optional-test t b = cond (eqb (byte b 0) 0) (all-zero (drop 1 b)) (eqb (byte b 0) 1 and t (drop 1 b))
 
--- product, alarm number and class 2 may be any byte: parts 0, 1 and 5
+-- product, alarm number and class 2 may be any byte
 unfoldable pub store-test : Catalogue → List ℕ → Bool
-store-test cat b = optional-test memory-test (part 2 b)
-    and alarms-test cat (automatic-keys cat) (part 3 b)
-    and optional-test (alarms-test cat (automatic-keys cat)) (part 4 b)
-    and table-test cat (part 6 b)
-    and optional-test (table-test cat) (part 7 b)
+store-test cat b = optional-test memory-test (nth-part nth-memory b)
+    and alarms-test cat (automatic-keys cat) (nth-part nth-alarms b)
+    and optional-test (alarms-test cat (automatic-keys cat)) (nth-part nth-walk b)
+    and table-test cat (nth-part nth-table b)
+    and optional-test (table-test cat) (nth-part nth-upload b)

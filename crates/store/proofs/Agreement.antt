@@ -1,23 +1,21 @@
 -- On a store that holds a state, an entry does what the rules do to that state.
-use Prim.Native.Nat.{ℕ, _≤_, _<_}
+use Prim.Native.Nat.{ℕ}
 use native.Mathlib.Omega.{arith}
-use mathlib.Core.Path.{_≡_, refl, sym, _∙_, ap}
-use mathlib.Core.Bool.{Bool, true, false, cond}
-use mathlib.Core.Option.{Option, none, some}
-use mathlib.Core.List.{List, [], _∷_, _++_}
+use mathlib.Core.Path.{_≡_}
+use mathlib.Core.Bool.{true, false}
+use mathlib.Core.Option.{some}
+use mathlib.Core.List.{List, _++_}
 use lib.ListN.{length, length-append}
 use lib.Dec.{ltb}
-use Rattle.rules.specs.Maps.{given, find, first-that-applies}
-use Rattle.rules.specs.Catalogue.{Catalogue}
-use Rattle.rules.specs.State.{State}
+use Rattle.rules.specs.Maps.{find, first-that-applies}
 use Rattle.rules.specs.Legal.{legal-state}
-use Rattle.rules.specs.Reports.{Outcome, dropped, unless-dropped}
-use Rattle.rules.specs.Run.{Call, Input, store-length, reply-length, taken, room-drops, step}
+use Rattle.rules.specs.Reports.{unless-dropped}
+use Rattle.rules.specs.Run.{Call, Input, store-length, reply-length, room-drops, step}
 use Rattle.rules.specs.Products.{Products}
 use Rattle.rules.proofs.Laws.{cases, le-ltb}
 use Rattle.store.specs.Layout.{encode}
-use Rattle.store.specs.Decode.{Held, decode}
-use Rattle.store.specs.Entries.{Left, leave, refuse, enter}
+use Rattle.store.specs.Decode.{Held}
+use Rattle.store.specs.Entries.{leave, refuse, enter}
 use Rattle.store.specs.Fitting.{AllFit}
 use Rattle.store.proofs.Soundness.{decode-of-held, legal-length}
 

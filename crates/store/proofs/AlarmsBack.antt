@@ -2,7 +2,7 @@
 use Prim.Native.Nat.{ℕ, zero, suc, _+_, _-_, _≤_, _<_}
 use native.Mathlib.Omega.{arith}
 use mathlib.Core.Path.{_≡_, refl, sym, ap}
-use mathlib.Core.Bool.{Bool, true, false, not}
+use mathlib.Core.Bool.{Bool, true, false}
 use mathlib.Core.Option.{Option, none, some}
 use mathlib.Core.Logic.{_≢_}
 use mathlib.Core.List.{List, [], _∷_, _++_, map}
@@ -11,18 +11,20 @@ use lib.Seq.{length-take-le}
 use lib.Dec.{ltb}
 use Rattle.rules.specs.Maps.{_and_, _or_, Map, given, find, has, is-some, keys, all, among, empty}
 use Rattle.rules.specs.Bytes.{bits-from, bits}
-use Rattle.rules.specs.Catalogue.{Creation, created, automatic, comes-with, Class, Catalogue, no-class, class, known, is-created, automatic-numbers, lead, leader, key, ont-data}
+use Rattle.rules.specs.Catalogue.{Creation, created, automatic, comes-with, Class, Catalogue, no-class, class, known, is-created, automatic-numbers, leader, key, ont-data}
 use Rattle.rules.specs.State.{Entry, Table, Alarms, class-of, number-of, entries, entry, holds, alarms-of}
 use Rattle.rules.specs.Legal.{may-be-there, there-or-gone, automatic-keys, legal-table, legal-live, declared-from, some-on, legal-bitmap, legal-bitmaps, legal-walk}
 use Rattle.rules.specs.WellFormed.{WellFormed, is-companion}
-use Rattle.rules.proofs.Laws.{never, true-false, both, and-true, or-cases, not-true, eqb-eq, ltb-lt, all-among, same-eq, every-find, find-some, has-among}
+use Rattle.rules.proofs.Laws.{never, true-false, both, or-cases, eqb-eq, ltb-lt, all-among, same-eq, every-find, find-some, has-among}
 use Rattle.rules.proofs.MapLaws.{rising-up, among-past, each-of-every, each-imp, has-append, collect, collect-all}
-use Rattle.rules.proofs.Lookups.{class-or-none}
+use Rattle.rules.proofs.Lookups.{class-or-none, plain-lead}
 use Rattle.rules.proofs.Standing.{automatic-rise, automatic-among, key-back}
 use Rattle.store.specs.Layout.{slot-count, code-alarms, fits}
 use Rattle.store.specs.Decode.{read-alarms}
-use Rattle.store.proofs.BytesBack.{fill-keeps, byte-bits-back}
+use Rattle.rules.proofs.ByteLaws.{fill-keeps}
+use Rattle.store.proofs.BytesBack.{byte-bits-back}
 use Rattle.store.proofs.Widths.{Found, slots-are-enough, alarms-fit, alarms-below-8}
+use Rattle.rules.proofs.Bitmaps.{bitmap-is-declared}
 
 -- ---- one bitmap
 
@@ -53,23 +55,7 @@ bitmap-back k b h t =
     let q : b ≡ take 8 b ++ replicate (length (drop 8 b)) false = quiet-behind (k .alarms) 8 8 0 b h (omega arith) (both (both t .1) .0) in
     rw (byte-bits-back (take 8 b) l) (sym (rw r at q))
 
--- no alarm is on where none is declared
-none-on : (n : ℕ) (b : Alarms) → declared-from n [] b ≡ true → all not b ≡ true
-unfolding declared-from all among
-none-on n [] t = refl
-none-on n (on ∷ b) t = and-true (or-cases (both t .0) (λ e. e) (λ e. never e)) (none-on (suc n) b (both t .1))
-
-some-declared : (d : List ℕ) (b : Alarms) → declared-from 0 d b ≡ true → some-on b ≡ true → empty d ≡ false
-unfolding some-on
-some-declared [] b t s = true-false (none-on 0 b t) (not-true s)
-some-declared (n ∷ d) b t s = refl
-
 -- ---- which instances have a bitmap
-
-plain-lead : (c : ℕ) (x : Creation) → is-created x ≡ false → is-companion x ≡ false → lead c x ≡ c
-plain-lead c created h g = never (sym h)
-plain-lead c (automatic l) h g = refl
-plain-lead c (comes-with d) h g = never (sym g)
 
 plain-there : (i : ℕ) (x : Creation) → is-created x ≡ false → is-companion x ≡ false → may-be-there x i ≡ among i (automatic-numbers x)
 plain-there i created h g = never (sym h)
@@ -88,19 +74,15 @@ held cat t c i h = go (find (key (leader cat c) i) (entries t)) h
 module _ (cat : Catalogue) (f : fits cat ≡ true) where
   -- a class that has a legal bitmap is in the catalogue
   pub bitmap-found : (c : ℕ) (b : Alarms) → legal-bitmap (class cat c) b ≡ true → Found cat c
-  unfolding legal-bitmap no-class
+  unfolding no-class
   bitmap-found c b h =
-      let g = both (both h .1) in
-      let n : empty (class cat c .alarms) ≡ false = some-declared (class cat c .alarms) b (g .0) (g .1) in
+      let n : empty (class cat c .alarms) ≡ false = bitmap-is-declared (class cat c) b h in
       class-or-none cat c (λ x. x) (λ e. never (sym (rw e at n)))
 
   -- and it is one of those with slots
   pub bitmap-plain : (c : ℕ) (b : Alarms) → legal-bitmap (class cat c) b ≡ true
       → (c ≢ ont-data) × (is-created (class cat c .creation) ≡ false) × (is-companion (class cat c .creation) ≡ false)
-  unfolding legal-bitmap
-  bitmap-plain c b h =
-      let g = both (both h .1) in
-      alarms-fit cat f c (bitmap-found c b h) (some-declared (class cat c .alarms) b (g .0) (g .1))
+  bitmap-plain c b h = alarms-fit cat f c (bitmap-found c b h) (bitmap-is-declared (class cat c) b h)
 
   -- of an alarm walk
   pub walked-stands : (k : ℕ) (b : Alarms) → there-or-gone cat (class-of k) (number-of k) ≡ true → legal-bitmap (class cat (class-of k)) b ≡ true

@@ -1,10 +1,9 @@
 -- The products that are built can be stored: each has a number in a byte, is well formed and fits.
-use Prim.Native.Nat.{ℕ}
 use native.Mathlib.Omega.{arith}
 use mathlib.Core.Path.{_≡_, refl}
 use mathlib.Core.Bool.{true}
 use Rattle.rules.specs.Products.{Small, Large, built-products}
-use Rattle.catalogues.proofs.WellFormed.{small-is-well-formed, large-is-well-formed}
+use Rattle.products.proofs.WellFormed.{small-is-well-formed, large-is-well-formed}
 use Rattle.store.specs.Layout.{fits}
 use Rattle.store.specs.Fitting.{AllFit}
 use Rattle.store.specs.Entries.{computing-store}

@@ -1,23 +1,14 @@
--- Filled lists, numbers in two bytes and bits in one, read back.
-use Prim.Native.Nat.{ℕ, _+_, _*_, _-_, _/_, _%_, _^_, _≤_, _<_}
+-- Numbers in two bytes and bits in one, read back.
+use Prim.Native.Nat.{ℕ, _+_, _*_, _/_, _%_, _^_, _<_}
 use native.Mathlib.Omega.{arith}
 use native.Mathlib.Nat.{pow-suc, div-div-eq-div-mul}
-use mathlib.Core.Path.{_≡_, refl, _∙_, ap}
+use mathlib.Core.Path.{_≡_, refl}
 use mathlib.Core.Bool.{Bool, true, false}
 use mathlib.Core.List.{List, [], _∷_, _++_}
-use lib.ListN.{length, take, replicate}
-use lib.Seq.{take-append-add}
+use lib.ListN.{length}
 use lib.Dec.{eqb}
-use Rattle.rules.specs.Bytes.{two, bytes, fill, bit, bits-from, bits}
+use Rattle.rules.specs.Bytes.{two, bytes, bit, bits-from, bits}
 use Rattle.rules.proofs.Laws.{eqb-true, eqb-false}
-
--- ---- filled lists
-
--- what fits isn't cut
-pub fill-keeps : (n : ℕ) (v : List ℕ) → length v ≤ n → fill n v ≡ v ++ take (n - length v) (replicate n 0)
-fill-keeps n v h =
-    ap (λ (j : ℕ). take j (v ++ replicate n 0)) (let z : n ≡ length v + (n - length v) = omega arith in z)
-    ∙ take-append-add v (replicate n 0) (n - length v)
 
 -- ---- two bytes
 

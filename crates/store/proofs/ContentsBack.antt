@@ -1,10 +1,10 @@
 -- The contents of an instance as bytes: how many they are, and that they are read back.
 use Prim.Native.Nat.{ℕ}
-use mathlib.Core.Path.{_≡_, refl}
+use mathlib.Core.Path.{_≡_, refl, ap}
 use mathlib.Core.Bool.{Bool, true}
 use mathlib.Core.List.{List, [], _∷_, _++_, append-assoc}
-use lib.ListN.{length, length-append}
-use lib.Seq.{take-at, drop-at}
+use lib.ListN.{length, length-append, take, drop}
+use lib.Seq.{take-at, drop-at, take-add}
 use lib.Dec.{eqb}
 use Rattle.rules.specs.Maps.{_and_, keys, every, gather}
 use Rattle.rules.specs.Bytes.{are-bytes}
@@ -34,6 +34,12 @@ cut-back size (e ∷ r) rest h =
       drop-at (e .1) (b ++ rest) (size (e .0)) n,
       cut-back size r rest (both h .1),
     )
+
+-- and put together again
+pub bytes-of-cut : (size : ℕ → ℕ) (l b : List ℕ) → contents-bytes (cut size l b) ≡ take (total size l) b
+unfolding contents-bytes gather cut total
+bytes-of-cut size [] b = refl
+bytes-of-cut size (n ∷ l) b = rw (take-add (size n) (total size l) b) (ap (λ (x : List ℕ). take (size n) b ++ x) (bytes-of-cut size l (drop (size n) b)))
 
 pub length-sized : (size : ℕ → ℕ) (r : Contents) → sized size r ≡ true → length (contents-bytes r) ≡ total size (keys r)
 unfolding keys contents-bytes gather every total

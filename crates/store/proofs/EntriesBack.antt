@@ -16,7 +16,7 @@ use Rattle.rules.proofs.MapLaws.{Each}
 use Rattle.rules.proofs.Families.{family-classes}
 use Rattle.store.specs.Layout.{contents-bytes, entry-bytes, contents-width, family-width}
 use Rattle.store.specs.Decode.{read-entry}
-use Rattle.store.proofs.BytesBack.{fill-keeps}
+use Rattle.rules.proofs.ByteLaws.{fill-keeps}
 use Rattle.store.proofs.ContentsBack.{contents-back, contents-length}
 
 module _ (cat : Catalogue) where

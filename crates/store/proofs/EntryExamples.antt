@@ -56,9 +56,9 @@ pub power-on-writes-the-fresh-state : (encode 1 Small (fresh Small) ++ behind) �
 unfolding computing-entries
 power-on-writes-the-fresh-state = refl
 
--- a byte short; the same with a product that there isn't, as the length is tried first; products 0 and 3
+-- a byte short; the same with a product that there isn't, as the length is tried first; products 0 and 255
 pub power-on-drops-2-and-12 :
-    map (λ (e : ℕ × List ℕ). power-on built-products (e .0) (e .1)) ((1, replicate 3343 0x77) ∷ (0, replicate 3343 0x77) ∷ (0, replicate 3344 0x77) ∷ (3, replicate 3347 0x77) ∷ [])
+    map (λ (e : ℕ × List ℕ). power-on built-products (e .0) (e .1)) ((1, replicate 3343 0x77) ∷ (0, replicate 3343 0x77) ∷ (0, replicate 3344 0x77) ∷ (255, replicate 3347 0x77) ∷ [])
     ≡ (some 2, replicate 3343 0x77) ∷ (some 2, replicate 3343 0x77) ∷ (some 12, replicate 3344 0x77) ∷ (some 12, replicate 3347 0x77) ∷ []
 unfolding computing-entries
 power-on-drops-2-and-12 = refl
@@ -174,12 +174,12 @@ pub drop-2-of-a-short-store :
 unfolding computing-drops
 drop-2-of-a-short-store = refl
 
--- One byte of a fresh Small is damaged: product 0 and 3; a remembered command marked 2; an alarm that isn't declared, an alarm of
+-- One byte of a fresh Small is damaged: product 0 and 255; a remembered command marked 2; an alarm that isn't declared, an alarm of
 -- a UNI that isn't there; a walk marked 2; 1 and 41 places in use, as none is; admin state 2; a byte behind the UNI's contents; a
 -- byte of a UNI that isn't there; the first and the last byte of the unused places; an upload marked 2; its last byte.
 unfoldable pub damages : List (List ℕ)
 damages = map (λ (e : ℕ × ℕ). laid (e .0) (e .1 ∷ []) small-store) (
-    (0, 0) ∷ (0, 3) ∷ (2, 2) ∷ (91, 0x40) ∷ (92, 0x80) ∷ (95, 2) ∷ (101, 1) ∷ (101, 41) ∷ (106, 2) ∷ (108, 1) ∷ (117, 1) ∷ (162, 1) ∷ (1721, 1) ∷ (1722, 2) ∷ (3343, 1) ∷ [])
+    (0, 0) ∷ (0, 255) ∷ (2, 2) ∷ (91, 0x40) ∷ (92, 0x80) ∷ (95, 2) ∷ (101, 1) ∷ (101, 41) ∷ (106, 2) ∷ (108, 1) ∷ (117, 1) ∷ (162, 1) ∷ (1721, 1) ∷ (1722, 2) ∷ (3343, 1) ∷ [])
 
 pub drop-2-of-a-damaged-store :
     map (λ b. on (message e12) b (room 50)) damages ≡ map (λ b. left-by-drop 2 b (room 50)) damages

@@ -1,19 +1,18 @@
 -- Whole stores, by computation.
-use Prim.Native.Nat.{ℕ, zero, suc, _+_}
 use mathlib.Core.Path.{_≡_, refl}
-use mathlib.Core.Bool.{Bool, true, false, _&&_}
-use mathlib.Core.Option.{Option, none, some}
-use mathlib.Core.List.{List, [], _∷_, _++_, map}
-use lib.ListN.{length, take, drop, getD, replicate}
+use mathlib.Core.Bool.{true}
+use mathlib.Core.Option.{some}
+use mathlib.Core.List.{[], _∷_, map}
+use lib.ListN.{length}
 use Rattle.rules.specs.Catalogue.{Catalogue}
 use Rattle.rules.specs.State.{State}
 use Rattle.rules.specs.Legal.{legal-state}
-use Rattle.rules.specs.Run.{Input, Call, message, alarm-report, fresh, after, store-length}
+use Rattle.rules.specs.Run.{alarm-report, fresh, after, store-length}
 use Rattle.rules.specs.Products.{Small, Large, built-products}
 use Rattle.rules.proofs.Examples.{bridge, command, call, computing}
 use Rattle.store.specs.Layout.{encode, fits}
-use Rattle.store.specs.Decode.{Held, decode}
-use Rattle.store.specs.Entries.{Left, enter, power-on, computing-store}
+use Rattle.store.specs.Decode.{decode}
+use Rattle.store.specs.Entries.{computing-store}
 
 -- a bridge, an alarm, both walks begun
 unfoldable pub busy : Catalogue → State

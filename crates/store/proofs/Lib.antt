@@ -4,10 +4,15 @@ pub mod ContentsBack
 pub mod EntriesBack
 pub mod Widths
 pub mod TablesBack
+pub mod AlarmBits
 pub mod AlarmsBack
+pub mod AlarmsStay
 pub mod StateBack
 pub mod OfBytes
 pub mod Soundness
+pub mod Positions
+pub mod StoreLaid
+pub mod StateLaid
 pub mod Agreement
 pub mod Built
 pub mod Examples

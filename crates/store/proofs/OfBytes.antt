@@ -1,24 +1,23 @@
 -- The encoding of a legal state is a list of bytes.
-use Prim.Native.Nat.{ℕ, zero, suc, _+_, _*_, _/_, _%_, _^_, _≤_, _<_}
+use Prim.Native.Nat.{ℕ, _≤_, _<_}
 use native.Mathlib.Omega.{arith}
-use native.Mathlib.Nat.{pow-suc, mul-assoc, mul-comm}
 use mathlib.Core.Path.{_≡_, refl}
-use mathlib.Core.Bool.{Bool, true, false, not}
+use mathlib.Core.Bool.{Bool, true, not}
 use mathlib.Core.Option.{Option, none, some}
 use mathlib.Core.List.{List, [], _∷_, _++_, map}
 use lib.ListN.{length, take, replicate}
-use lib.Seq.{take-nil}
 use lib.Dec.{eqb}
 use Rattle.rules.specs.Maps.{_and_, Map, given, find, every, gather, all}
-use Rattle.rules.specs.Bytes.{bytes, fill, is-byte, are-bytes, bit, bits-from}
+use Rattle.rules.specs.Bytes.{bytes, fill, is-byte, are-bytes, bits-from}
 use Rattle.rules.specs.Catalogue.{Class, Catalogue, class, size-of, key, ont-data}
 use Rattle.rules.specs.State.{Contents, Entry, Table, Alarms, Memory, State, class-of, number-of, entries, entry, alarms-of}
 use Rattle.rules.specs.Legal.{legal-content, there-or-gone, legal-contents, legal-entry, automatic-keys, legal-table, legal-memory, legal-state}
 use Rattle.rules.specs.Walks.{frozen}
-use Rattle.rules.proofs.Laws.{both, and-true, lt-ltb, ltb-lt, leb-le, all-append, every-find, every-keep}
+use Rattle.rules.proofs.Laws.{both, and-true, ltb-lt, leb-le, every-find, every-keep}
 use Rattle.rules.proofs.ByteLaws.{bytes-append, bytes-cons, bytes-none, bytes-zeros, bytes-fill, bytes-of-number, eight-small}
 use Rattle.rules.proofs.MapLaws.{Each, each-of-every, each-imp, every-append, all-gather}
-use Rattle.store.specs.Layout.{ont-data-width, slot-count, slot-width, slots-length, place-width, places-length, table-length, memory-length, contents-bytes, entry-bytes, slot, place, code-table, code-alarms, code-memory, code-optional, parts, encode, fits}
+use Rattle.store.specs.Layout.{ont-data-width, slot-count, slot-width, slots-length, place-width, places-length, table-length, memory-length, contents-bytes, entry-bytes}
+use Rattle.store.specs.Layout.{slot, place, code-table, code-alarms, code-memory, code-optional, parts, encode, fits}
 use Rattle.store.proofs.Widths.{places-are-enough}
 
 -- ---- alarms

@@ -15,7 +15,8 @@ use Rattle.rules.specs.Legal.{automatic-keys, legal-memory, legal-state}
 use Rattle.rules.specs.Run.{store-length}
 use Rattle.rules.specs.Walks.{frozen}
 use Rattle.rules.proofs.Laws.{both, eqb-eq}
-use Rattle.store.specs.Layout.{ont-data-width, slot-count, slots-length, places-length, table-length, memory-length, slot, place, entry-bytes, code-table, code-alarms, code-memory, code-optional, part-lengths, parts, encode}
+use Rattle.store.specs.Layout.{ont-data-width, slot-count, slots-length, places-length, table-length, memory-length, slot, place, entry-bytes, code-table, code-alarms}
+use Rattle.store.specs.Layout.{code-memory, code-optional, part-lengths, parts, encode}
 use Rattle.store.specs.Decode.{cut-parts}
 use Rattle.rules.proofs.ByteLaws.{length-fill}
 

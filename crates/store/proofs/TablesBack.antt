@@ -1,10 +1,10 @@
 -- Tables as bytes, read back: the slots, the places, a table without class 2, and the live table.
-use Prim.Native.Nat.{ℕ, _*_, _-_, _≤_, _<_}
+use Prim.Native.Nat.{ℕ, _-_, _≤_, _<_}
 use native.Mathlib.Omega.{arith}
 use mathlib.Core.Path.{_≡_, refl, sym, _∙_, ap}
 use mathlib.Core.Bool.{Bool, true, not}
 use mathlib.Core.List.{List, [], _∷_, _++_, append-assoc}
-use lib.ListN.{length, take, replicate, length-append}
+use lib.ListN.{length, take, replicate}
 use lib.Seq.{take-at, drop-at}
 use lib.Dec.{eqb}
 use Rattle.rules.specs.Maps.{Map, find, keys, keep, every, gather, all, same}
@@ -19,8 +19,8 @@ use Rattle.rules.proofs.MapLaws.{length-keys, length-gather, keep-all, every-ke
 use Rattle.rules.proofs.Standing.{stands, automatic-keys-stand, key-back}
 use Rattle.store.specs.Layout.{ont-data-width, slot-width, slots-length, place-width, place-length, places-length, entry-bytes, slot, place, code-table, fits}
 use Rattle.store.specs.Decode.{read-entry, read-slots, read-place, read-places, read-table, read-live}
-use Rattle.rules.proofs.ByteLaws.{length-fill}
-use Rattle.store.proofs.BytesBack.{fill-keeps, two-back}
+use Rattle.rules.proofs.ByteLaws.{length-fill, fill-keeps}
+use Rattle.store.proofs.BytesBack.{two-back}
 use Rattle.store.proofs.EntriesBack.{entry-back}
 use Rattle.store.proofs.Widths.{created-found, slots-are-enough, places-are-enough, slot-fits, class-2-fits, place-fits, class-below}
 

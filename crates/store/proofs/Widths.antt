@@ -1,7 +1,7 @@
 -- What a catalogue that fits gives: the entries of each class fit where they go, and alarms are those of slots' classes.
 use Prim.Native.Nat.{ℕ, _≤_, _<_}
 use native.Mathlib.Omega.{arith}
-use mathlib.Core.Path.{_≡_, sym, _∙_, ap}
+use mathlib.Core.Path.{_≡_, ap}
 use mathlib.Core.Bool.{true, false}
 use mathlib.Core.Option.{some}
 use mathlib.Core.Logic.{_≢_}
@@ -9,11 +9,11 @@ use mathlib.Core.List.{List, [], _∷_}
 use lib.ListN.{length}
 use lib.Dec.{eqb, ltb}
 use Rattle.rules.specs.Maps.{find, all, empty}
-use Rattle.rules.specs.Catalogue.{Catalogue, no-class, class, known, is-created, automatic-numbers, family, ont-data}
+use Rattle.rules.specs.Catalogue.{Catalogue, no-class, class, is-created, automatic-numbers, family, ont-data}
 use Rattle.rules.specs.State.{class-of}
 use Rattle.rules.specs.Legal.{automatic-keys}
 use Rattle.rules.specs.WellFormed.{WellFormed, is-companion, class-number-in-two-bytes}
-use Rattle.rules.proofs.Laws.{never, true-false, both, not-true, or-cases, or-none, eqb-false, eqb-ne, ltb-lt, leb-le, every-find, find-some}
+use Rattle.rules.proofs.Laws.{never, true-false, both, not-true, or-cases, or-none, eqb-false, eqb-ne, ltb-lt, leb-le, every-find}
 use Rattle.rules.proofs.Lookups.{class-or-none, known-class, created-known}
 use Rattle.rules.proofs.Standing.{stands, stands-not-created}
 use Rattle.store.specs.Layout.{ont-data-width, slot-count, slot-width, place-count, place-width, family-width, width-for, class-fits, fits}

@@ -11,9 +11,11 @@ use Rattle.rules.specs.Catalogue.{Class, Catalogue, size-of, stored-numbers, fa
 use Rattle.rules.specs.State.{Contents, Entry, Table, Alarms, Memory, State, class-of}
 use Rattle.rules.specs.Legal.{automatic-keys, some-on, legal-state}
 use Rattle.rules.specs.Commands.{cut}
-use Rattle.rules.specs.Run.{store-length}
+use Rattle.rules.specs.Run.{store-length, reply-length}
 use Rattle.rules.specs.Products.{Products}
-use Rattle.store.specs.Layout.{slot-width, slots-length, place-length, part-lengths, contents-width, encode}
+use Rattle.store.specs.Layout.{ont-data-width, key-length, slot-width, slots-length, place-length, command-length, part-lengths}
+use Rattle.store.specs.Layout.{nth-alarm-number, nth-memory, nth-alarms, nth-walk, nth-ont-data, nth-table, nth-upload}
+use Rattle.store.specs.Layout.{contents-width, encode}
 
 -- ---- tables
 
@@ -30,7 +32,7 @@ read-slots cat [] b = []
 read-slots cat (k ∷ l) b = (k, read-entry (family cat (class-of k)) (take slot-width b)) ∷ read-slots cat l (drop slot-width b)
 
 unfoldable pub read-place : Catalogue → List ℕ → ℕ × Entry
-read-place cat b = (key (two b 0) (two b 2), read-entry (family cat (two b 0)) (drop 4 b))
+read-place cat b = (key (two b 0) (two b 2), read-entry (family cat (two b 0)) (drop key-length b))
 
 unfoldable pub read-places : Catalogue → ℕ → List ℕ → Map Entry
 read-places cat zero b = []
@@ -54,7 +56,7 @@ unfoldable pub read-optional : {A : Type 0} → (List ℕ → A) → List ℕ �
 read-optional f b = cond (eqb (byte b 0) 0) none (some (f (drop 1 b)))
 
 unfoldable pub read-memory : List ℕ → Memory
-read-memory b = record { command = take 40 b; reply = take 48 (drop 40 b) }
+read-memory b = record { command = take command-length b; reply = take reply-length (drop command-length b) }
 
 -- ---- the state
 
@@ -62,24 +64,28 @@ unfoldable pub cut-parts : List ℕ → List ℕ → List (List ℕ)
 cut-parts [] b = []
 cut-parts (n ∷ l) b = take n b ∷ cut-parts l (drop n b)
 
-abbrev pub part : ℕ → List ℕ → List ℕ
-part n b = getD (cut-parts part-lengths b) n []
+abbrev pub nth-part : ℕ → List ℕ → List ℕ
+nth-part n b = getD (cut-parts part-lengths b) n []
 
--- the table of part 6, with class 2 of part 5 in front
+-- a table, with class 2 in front
 unfoldable pub read-live : Catalogue → List ℕ → List ℕ → Table
 read-live cat of-class-2 b = record {
   automatic = (key ont-data 0, read-entry (family cat ont-data) of-class-2) ∷ read-table cat b .automatic;
   created = read-table cat b .created;
 }
 
+-- from a live block
+unfoldable pub live-of : Catalogue → List ℕ → Table
+live-of cat b = read-live cat (take ont-data-width b) (drop ont-data-width b)
+
 unfoldable pub read-state : Catalogue → List ℕ → State
 read-state cat b = record {
-  table = read-live cat (part 5 b) (part 6 b);
-  alarms = read-alarms (automatic-keys cat) (part 3 b);
-  alarm-number = byte (part 1 b) 0;
-  remembered = read-optional read-memory (part 2 b);
-  upload = read-optional (read-table cat) (part 7 b);
-  walk = read-optional (read-alarms (automatic-keys cat)) (part 4 b);
+  table = read-live cat (nth-part nth-ont-data b) (nth-part nth-table b);
+  alarms = read-alarms (automatic-keys cat) (nth-part nth-alarms b);
+  alarm-number = byte (nth-part nth-alarm-number b) 0;
+  remembered = read-optional read-memory (nth-part nth-memory b);
+  upload = read-optional (read-table cat) (nth-part nth-upload b);
+  walk = read-optional (read-alarms (automatic-keys cat)) (nth-part nth-walk b);
 }
 
 -- ---- soundness
@@ -105,5 +111,6 @@ unfoldable pub sound : Products → List ℕ → Bool
 sound products b = is-some (decode products b)
 
 unfoldable pub computing-decode : ℕ
-unfolding read-contents read-entry read-slots read-place read-places read-table read-alarms read-optional read-memory cut-parts read-live read-state decode-as decode sound
+unfolding read-contents read-entry read-slots read-place read-places read-table read-alarms read-optional read-memory cut-parts read-live
+    live-of read-state decode-as decode sound
 computing-decode = 0

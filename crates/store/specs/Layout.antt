@@ -1,5 +1,5 @@
 -- A state as bytes: eight parts of fixed length, so that one state has one encoding.
-use Prim.Native.Nat.{ℕ, _+_, _*_}
+use Prim.Native.Nat.{ℕ, zero, suc, _+_, _*_}
 use mathlib.Core.Bool.{Bool, not, cond}
 use mathlib.Core.Option.{Option, none, some}
 use mathlib.Core.List.{List, [], _∷_, _++_, map}
@@ -13,6 +13,7 @@ use Rattle.rules.specs.State.{Contents, Entry, Table, Alarms, Memory, State, cl
 use Rattle.rules.specs.Legal.{automatic-keys}
 use Rattle.rules.specs.WellFormed.{is-companion}
 use Rattle.rules.specs.Walks.{frozen}
+use Rattle.rules.specs.Run.{reply-length}
 
 -- ---- the lengths that decide which catalogues fit: a wider class needs one of them widened, and nothing else
 
@@ -35,8 +36,11 @@ abbrev pub place-width : ℕ
 place-width = 35
 
 -- a place begins with class and number
+abbrev pub key-length : ℕ
+key-length = 4
+
 abbrev pub place-length : ℕ
-place-length = 4 + place-width
+place-length = key-length + place-width
 
 abbrev pub slots-length : ℕ
 slots-length = slot-count * slot-width
@@ -47,6 +51,28 @@ places-length = place-count * place-length
 -- how many places are in use, the slots, the places
 abbrev pub table-length : ℕ
 table-length = 1 + (slots-length + places-length)
+
+-- ---- a block: a table with one byte in front, class 2's contents before the live one, a mark before the frozen one
+
+abbrev pub block-length : ℕ
+block-length = 1 + table-length
+
+-- where a block has the number of places in use, its slots and its places
+abbrev pub in-use-at : ℕ
+in-use-at = 1
+
+abbrev pub slots-at : ℕ
+slots-at = in-use-at + 1
+
+abbrev pub places-at : ℕ
+places-at = slots-at + slots-length
+
+-- and one of them
+abbrev pub slot-at : ℕ → ℕ
+slot-at j = slots-at + slot-width * j
+
+abbrev pub place-at : ℕ → ℕ
+place-at j = places-at + place-length * j
 
 -- ---- contents
 
@@ -66,6 +92,10 @@ place e = bytes 2 (class-of (e .0)) ++ bytes 2 (number-of (e .0)) ++ fill place-
 unfoldable pub code-table : Table → List ℕ
 code-table t = length (t .created) ∷ fill slots-length (gather slot (t .automatic)) ++ fill places-length (gather place (t .created))
 
+-- the live block
+unfoldable pub live-bytes : Table → List ℕ
+live-bytes t = fill ont-data-width (entry-bytes (entry (key ont-data 0) t)) ++ code-table (frozen t)
+
 -- eight alarms of each slot's instance in a byte, alarm 0 at its top
 unfoldable pub code-alarms : Catalogue → Map Alarms → List ℕ
 code-alarms cat m = fill slot-count (map (λ k. bits-from 0 (take 8 (alarms-of k m))) (automatic-keys cat))
@@ -80,12 +110,70 @@ code-optional n f (some a) = 1 ∷ f a
 
 -- ---- the parts
 
+abbrev pub command-length : ℕ
+command-length = 40
+
 abbrev pub memory-length : ℕ
-memory-length = 40 + 48
+memory-length = command-length + reply-length
 
 -- product, alarm number, remembered command, alarms, alarm walk, class 2, table, upload
 abbrev pub part-lengths : List ℕ
 part-lengths = 1 ∷ 1 ∷ (1 + memory-length) ∷ slot-count ∷ (1 + slot-count) ∷ ont-data-width ∷ table-length ∷ (1 + table-length) ∷ []
+
+-- which of them is which, counted from 0
+abbrev pub nth-product : ℕ
+nth-product = 0
+
+abbrev pub nth-alarm-number : ℕ
+nth-alarm-number = 1
+
+abbrev pub nth-memory : ℕ
+nth-memory = 2
+
+abbrev pub nth-alarms : ℕ
+nth-alarms = 3
+
+abbrev pub nth-walk : ℕ
+nth-walk = 4
+
+abbrev pub nth-ont-data : ℕ
+nth-ont-data = 5
+
+abbrev pub nth-table : ℕ
+nth-table = 6
+
+abbrev pub nth-upload : ℕ
+nth-upload = 7
+
+-- the sum of the first so many lengths
+abbrev pub begins : ℕ → List ℕ → ℕ
+begins zero l = 0
+begins (suc j) [] = 0
+begins (suc j) (n ∷ l) = n + begins j l
+
+-- where each of them begins
+abbrev pub alarm-number-at : ℕ
+alarm-number-at = begins nth-alarm-number part-lengths
+
+abbrev pub memory-at : ℕ
+memory-at = begins nth-memory part-lengths
+
+abbrev pub alarms-at : ℕ
+alarms-at = begins nth-alarms part-lengths
+
+abbrev pub walk-at : ℕ
+walk-at = begins nth-walk part-lengths
+
+-- the live block: class 2, and the table behind it
+abbrev pub live-at : ℕ
+live-at = begins nth-ont-data part-lengths
+
+abbrev pub table-at : ℕ
+table-at = begins nth-table part-lengths
+
+-- the frozen block
+abbrev pub upload-at : ℕ
+upload-at = begins nth-upload part-lengths
 
 -- the parts of the state of product p
 unfoldable pub parts : ℕ → Catalogue → State → List (List ℕ)
@@ -126,5 +214,6 @@ unfoldable pub fits : Catalogue → Bool
 fits cat = leb (length (automatic-keys cat)) slot-count and leb (cat .places) place-count and every (class-fits cat) (cat .classes)
 
 unfoldable pub computing-layout : ℕ
-unfolding contents-bytes entry-bytes slot place code-table code-alarms code-memory code-optional parts encode contents-width family-width class-fits fits
+unfolding contents-bytes entry-bytes slot place code-table live-bytes code-alarms code-memory code-optional parts encode contents-width
+    family-width class-fits fits
 computing-layout = 0

@@ -1,1 +1,2 @@
-// A state as bytes: see specs/. This crate has no code of its own.
+// A state as bytes: see specs/ and proofs/. The code of this crate is where each part of a store stands.
+pub mod layout;

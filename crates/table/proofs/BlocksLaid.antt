@@ -1,25 +1,21 @@
 -- One entry changed among blocks of one length.
-use Prim.Native.Nat.{ℕ, zero, suc, _+_, _*_, _≤_, _<_}
+use Prim.Native.Nat.{ℕ, suc, _+_, _*_, _≤_}
 use native.Mathlib.Omega.{arith}
 use native.Mathlib.Nat.{mul-suc}
-use mathlib.Core.Path.{_≡_, refl, sym, _∙_, ap}
-use mathlib.Core.Bool.{Bool, true, false, cond}
-use mathlib.Core.Option.{Option, none, some}
-use mathlib.Core.List.{List, [], _∷_, _++_}
-use lib.ListN.{length, length-append}
+use mathlib.Core.Path.{_≡_, sym}
+use mathlib.Core.Bool.{false}
+use mathlib.Core.Option.{some}
+use mathlib.Core.List.{List, [], _∷_}
+use lib.ListN.{length}
 use lib.Dec.{eqb}
-use Rattle.rules.specs.Maps.{_or_, Map, find, keys, each, at-key, among, gather}
+use Rattle.rules.specs.Maps.{Map, find, keys, each, at-key, gather}
 use Rattle.rules.specs.Bytes.{laid}
-use Rattle.rules.proofs.Laws.{cases, never, eqb-true, eqb-false, eqb-eq, eqb-ne}
+use Rattle.rules.proofs.Laws.{cases, eqb-true, eqb-false, eqb-eq, eqb-ne}
 use Rattle.rules.proofs.MapLaws.{some-eq, none-some, Up, at-absent}
-use Rattle.table.specs.Spots.{one-on, position}
-use Rattle.table.proofs.Laid.{laid-behind, laid-before}
+use Rattle.store.specs.Positions.{position}
+use Rattle.octets.proofs.Laid.{laid-behind, laid-before}
 use Rattle.table.proofs.ContentsLaid.{not-below}
-
--- what is a place further on
-pub further {ℓ} : {X : Type ℓ} (o : Option ℕ) (j : ℕ) → one-on o ≡ some j → ((i : ℕ) → o ≡ some i → j ≡ suc i → X) → X
-further none j e f = none-some e
-further (some i) j e f = f i refl (sym (some-eq e))
+use Rattle.store.proofs.Positions.{further}
 
 module _ {A : Type 0} (code : ℕ × A → List ℕ) (width : ℕ) (long : (e : ℕ × A) → length (code e) ≡ width) where
   pub blocks-laid : (b : ℕ) (m : Map A) (k j o : ℕ) (w : List ℕ) (g : A → A) (a : A) → Up b (keys m) → position k (keys m) ≡ some j → find k m ≡ some a

@@ -3,19 +3,20 @@ use Prim.Native.Nat.{ℕ, zero, suc, _+_, _*_, _-_, _≤_, _<_}
 use native.Mathlib.Omega.{arith}
 use native.Mathlib.Nat.{mul-suc, mul-zero}
 use mathlib.Core.Path.{_≡_, refl, sym, _∙_, ap}
-use mathlib.Core.Bool.{Bool, true, false, not, cond}
-use mathlib.Core.Option.{Option, none, some}
+use mathlib.Core.Bool.{true, false, not}
+use mathlib.Core.Option.{some}
 use mathlib.Core.List.{List, [], _∷_, _++_, append-assoc}
-use lib.ListN.{length, take, drop, replicate, length-append, length-take, length-drop, length-replicate, take-append-drop, replicate-append-replicate}
-use lib.Seq.{take-append-add, drop-append-add, take-append-le, drop-append-le, take-at, drop-at, drop-drop, length-take-le}
+use lib.ListN.{length, take, drop, replicate, length-append, length-drop, replicate-append-replicate}
+use lib.Seq.{take-append-add, drop-append-add, take-append-le, drop-append-le, drop-at, drop-drop, length-take-le}
 use lib.Dec.{eqb, ltb}
-use Rattle.rules.specs.Maps.{_or_, Map, every, keys, put, keep, remove, among, gather, put-if}
+use Rattle.rules.specs.Maps.{Map, every, keys, put, keep, remove, among, gather}
 use Rattle.rules.specs.Bytes.{fill}
-use Rattle.rules.proofs.Laws.{cases, never, and-true, or-none, eqb-true, eqb-false, eqb-eq, eqb-ne, ltb-lt, ltb-le}
-use Rattle.rules.proofs.MapLaws.{some-eq, none-some, Up, keep-all, every-keys}
-use Rattle.soundness.proofs.Blocks.{fill-is}
-use Rattle.table.specs.Spots.{one-on, position, rank}
-use Rattle.table.proofs.BlocksLaid.{further}
+use Rattle.rules.proofs.Laws.{cases, and-true, or-none, eqb-true, eqb-false, eqb-eq, eqb-ne}
+use Rattle.rules.proofs.MapLaws.{some-eq, none-some, Up, keep-all}
+use Rattle.rules.proofs.ByteLaws.{fill-is}
+use Rattle.store.specs.Positions.{position}
+use Rattle.table.specs.Spots.{rank}
+use Rattle.store.proofs.Positions.{further}
 
 module _ {A : Type 0} (code : ℕ × A → List ℕ) (width : ℕ) (long : (e : ℕ × A) → length (code e) ≡ width) where
   -- take and drop whole blocks

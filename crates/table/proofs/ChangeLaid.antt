@@ -1,35 +1,37 @@
 -- The contents of one instance changed: the table's bytes with the new ones laid over the old, at the instance's spot.
-use Prim.Native.Nat.{ℕ, _+_, _*_, _-_, _≤_, _<_}
+use Prim.Native.Nat.{ℕ, _+_, _*_, _≤_, _<_}
 use native.Mathlib.Omega.{arith}
 use mathlib.Core.Path.{_≡_, refl, sym, _∙_, ap}
 use mathlib.Core.Bool.{true, false, cond}
 use mathlib.Core.Option.{none, some}
-use mathlib.Core.List.{List, [], _∷_, _++_}
+use mathlib.Core.List.{List, _∷_, _++_}
 use lib.ListN.{length}
 use lib.Dec.{eqb}
-use Rattle.rules.specs.Maps.{_and_, _or_, Map, is-some, find, keys, every, each, at-key, among, gather}
+use Rattle.rules.specs.Maps.{_and_, Map, is-some, find, keys, every, each, at-key, among, gather}
 use Rattle.rules.specs.Bytes.{bytes, fill, laid}
 use Rattle.rules.specs.Catalogue.{Class, Catalogue, class, known, is-created, leader, family, key, ont-data}
 use Rattle.rules.specs.State.{Contents, Entry, Table, class-of, number-of, entries, entry, contents, change}
 use Rattle.rules.specs.Legal.{legal-contents, legal-entry, automatic-keys}
 use Rattle.rules.specs.WellFormed.{WellFormed}
-use Rattle.rules.proofs.Laws.{cases, never, true-false, not-true, both, or-left, all-among, eqb-true, eqb-false, eqb-eq, eq-same, every-find, keys-each, find-some, has-among}
+use Rattle.rules.proofs.Laws.{cases, never, true-false, not-true, both, all-among, eqb-true, eqb-false, eqb-eq, eq-same, every-find, keys-each, find-some, has-among}
 use Rattle.rules.proofs.MapLaws.{some-eq, find-here, find-past, Up, rising-up, at-absent, length-keys, length-gather}
 use Rattle.rules.proofs.Lookups.{led-known}
 use Rattle.rules.proofs.Families.{family-rises, family-classes, family-has, alone}
 use Rattle.rules.proofs.Standing.{stands, automatic-keys-stand, standing, standing-not-created, stands-leads, automatic-rise, key-class}
-use Rattle.store.specs.Layout.{slot-width, slots-length, place-width, place-length, places-length, contents-bytes, entry-bytes, slot, place, family-width, fits}
+use Rattle.store.specs.Layout.{slot-width, place-width, place-length, places-length, contents-bytes, entry-bytes, slot, place, family-width, fits, live-bytes, slot-at, place-at}
+use Rattle.store.specs.Layout.{key-length, slots-at, places-at}
 use Rattle.store.proofs.EntriesBack.{entry-length}
 use Rattle.store.proofs.Widths.{places-are-enough, slots-are-enough, place-fits, slot-fits, class-2-fits}
 use Rattle.store.proofs.TablesBack.{slot-length, place-has-its-length}
-use Rattle.kept.proofs.Tables.{LegalEntry, open-entry, close-entry, LegalLive, length-each}
-use Rattle.table.specs.Spots.{live-bytes, position, before, inside, slot-at, place-at, spot-among, spot}
-use Rattle.table.proofs.Laid.{laid-behind, fill-laid}
-use Rattle.table.proofs.ContentsLaid.{entry-laid, entry-room}
+use Rattle.legality.proofs.Tables.{LegalEntry, open-entry, close-entry, LegalLive, length-each}
+use Rattle.store.specs.Positions.{position, before, inside}
+use Rattle.table.specs.Spots.{spot-among, spot}
+use Rattle.octets.proofs.Laid.{laid-behind, fill-laid}
+use Rattle.table.proofs.ContentsLaid.{entry-laid, entry-room, first-of}
 use Rattle.table.proofs.BlocksLaid.{blocks-laid}
-use Rattle.kept.proofs.Holds.{find-in-created, find-in-automatic, created-alone}
+use Rattle.legality.proofs.Holds.{find-in-created, find-in-automatic, created-alone}
 use Rattle.table.proofs.TableLaid.{at-some, table-of, pieces, in-pieces, places-laid, slots-laid, front-laid, Shape, shape-of}
-use Rattle.table.proofs.Positions.{position-among, position-found, position-small}
+use Rattle.store.proofs.Positions.{position-among, position-found, stands-at}
 
 -- what is written into the instance's contents, and where in their bytes
 module _ (cat : Catalogue) (wf : WellFormed cat) (ft : fits cat ≡ true) (t : Table) (h : LegalLive cat wf t) (c i : ℕ) (lt : i < 65536)
@@ -72,8 +74,8 @@ module _ (cat : Catalogue) (wf : WellFormed cat) (ft : fits cat ≡ true) (t : T
     automatic-stays = at-absent (key (leader cat c) i) (at-key c wrote) (t .automatic) (rw (h .automatic-keys) not-standing)
 
     in-place : (e : Entry) → LegalEntry cat (key (leader cat c) i) e → find (key (leader cat c) i) (entries t) ≡ some e
-        → (place (key (leader cat c) i, at-key c wrote e) ≡ laid (4 + (inside cat c + off)) w (place (key (leader cat c) i, e)))
-        × (4 + (inside cat c + off) + length w ≤ place-length)
+        → (place (key (leader cat c) i, at-key c wrote e) ≡ laid (key-length + (inside cat c + off)) w (place (key (leader cat c) i, e)))
+        × (key-length + (inside cat c + off) + length w ≤ place-length)
     unfolding place bytes
     in-place e le fd =
         let k : ℕ = key (leader cat c) i in
@@ -82,14 +84,14 @@ module _ (cat : Catalogue) (wf : WellFormed cat) (ft : fits cat ≡ true) (t : T
         let lw : length (entry-bytes e) ≡ family-width (family cat (class-of k)) = entry-length cat wf k e (close-entry cat k e le) in
         let fitting : family-width (family cat (class-of k)) ≤ place-width = rw kc (place-fits cat ft wf (leader cat c) cr) in
         let front : List ℕ = bytes 2 (class-of k) ++ bytes 2 (number-of k) in
-        let lf : length front ≡ 4 = refl in (
+        let lf : length front ≡ key-length = refl in (
           rw (q .0, fill-laid place-width w (entry-bytes e) (inside cat c + off) (q .1) (omega arith)) (laid-behind front w (fill place-width (entry-bytes e)) (inside cat c + off)),
           omega (arith, q .1),
         )
 
     created-pieces : (at : ℕ) → gather place (at-key (key (leader cat c) i) (at-key c wrote) (t .created)) ≡ laid at w (gather place (t .created))
         → at + length w ≤ length (gather place (t .created)) → length (gather place (t .created)) ≤ places-length
-        → live-bytes written ≡ laid (2 + slots-length + at) w (live-bytes t)
+        → live-bytes written ≡ laid (places-at + at) w (live-bytes t)
     unfolding change
     created-pieces at g room fit =
         let m : Map Entry = t .created in
@@ -100,40 +102,35 @@ module _ (cat : Catalogue) (wf : WellFormed cat) (ft : fits cat ≡ true) (t : T
         let old : t ≡ table-of ((key ont-data 0, sh .first) ∷ sh .rest) m = λ d. record { automatic = sh .is d; created = m } in
         ap live-bytes new ∙ in-pieces cat wf (sh .first) (sh .rest) m′ (sh .rest-keys)
         ∙ places-laid (sh .first) (sh .rest) m m′ at w lm g room fit
-        ∙ ap (λ (b : List ℕ). laid (2 + slots-length + at) w b) (sym (ap live-bytes old ∙ in-pieces cat wf (sh .first) (sh .rest) m (sh .rest-keys)))
+        ∙ ap (λ (b : List ℕ). laid (places-at + at) w b) (sym (ap live-bytes old ∙ in-pieces cat wf (sh .first) (sh .rest) m (sh .rest-keys)))
 
     pub created-laid : (o : ℕ) → spot cat t c i ≡ some o → live-bytes written ≡ laid (o + off) w (live-bytes t)
     unfolding spot-among
     created-laid o sp =
         let k : ℕ = key (leader cat c) i in
         let m : Map Entry = t .created in
-        at-some (λ j. place-at j + 4 + inside cat c) (position k (keys m)) o (rw cr at sp) (λ j p eq.
+        at-some (λ j. place-at j + key-length + inside cat c) (position k (keys m)) o (rw cr at sp) (λ j p eq.
         let f = position-found k j m p in
         let e : Entry = f .0 in
         let le : LegalEntry cat k e = open-entry cat k e (every-find (legal-entry cat) m (h .created-legal) k e (f .1)) in
         let alone-there : find k (t .automatic) ≡ none = created-alone cat wf t h k (rw (key-class (leader cat c) i lt) cr) in
         let q = in-place e le (find-in-created k (t .automatic) m e alone-there (f .1)) in
-        let at : ℕ = place-length * j + (4 + (inside cat c + off)) in
-        let g = blocks-laid place place-length place-has-its-length 0 m k j (4 + (inside cat c + off)) w (at-key c wrote) e
+        let at : ℕ = place-length * j + (key-length + (inside cat c + off)) in
+        let g = blocks-laid place place-length place-has-its-length 0 m k j (key-length + (inside cat c + off)) w (at-key c wrote) e
         (rising-up (keys m) (h .rise)) p (f .1) (q .0) (q .1) in
         let lg = length-gather place place-length place-has-its-length m in
-        let small = position-small k j (keys m) p in
+        let small = stands-at k j (keys m) p .0 in
         let lk = length-keys m in
         let few = places-are-enough cat ft in
         let places = h .in-places in
-        let sum : 2 + slots-length + at ≡ o + off = omega arith in
+        let sum : places-at + at ≡ o + off = omega arith in
         rw (← sum) (created-pieces at g (let z = q .1 in omega arith) (omega arith)))
 
   -- ---- an instance that is there by itself
 
   module _ (auto : is-created (class cat c .creation) ≡ false) (leads : leader cat c ≡ c) (kn : known cat c ≡ true) where
     nothing-before : inside cat c ≡ 0
-    unfolding before keys among
-    nothing-before = rw leads (first-of (family cat c) (λ d m. alone cat wf c auto d m))
-      where
-        first-of : (fam : Map Class) → ((d : ℕ) → among d (keys fam) ≡ true → d ≡ c) → before fam c ≡ 0
-        first-of [] f = refl
-        first-of (e ∷ m) f = rw (eqb-true c (e .0) (sym (f (e .0) (or-left (among (e .0) (keys m)) (eqb-true (e .0) (e .0) refl)))))
+    nothing-before = rw leads (first-of c (family cat c) (λ d m. alone cat wf c auto d m))
 
     -- in its entry
     alone-in-entry : (k : ℕ) (e : Entry) → class-of k ≡ c → LegalEntry cat k e → find (key (leader cat c) i) (entries t) ≡ some e
@@ -192,13 +189,14 @@ module _ (cat : Catalogue) (wf : WellFormed cat) (ft : fits cat ≡ true) (t : T
         let up : Up 0 (keys a) = rw (sh .rest-keys) (automatic-rise cat wf) in
         let g = blocks-laid slot slot-width slot-length 0 a k j off w (at-key c wrote) e up pk (f .1) in-slot (let z = q .1 in omega arith) in
         let lg = length-gather slot slot-width slot-length a in
-        let small = position-small k j (keys a) pk in
+        let small = stands-at k j (keys a) pk .0 in
         let lk = length-keys a in
         let la = ap length (sh .rest-keys) in
         let few = slots-are-enough cat ft in
         let other : eqb (key ont-data 0) (key (leader cat c) i) ≡ false = eqb-false (key ont-data 0) (key (leader cat c) i) (λ z. not-two k sk (rw (← leads) (sym z))) in
-        let sum : 2 + (slot-width * j + off) ≡ slot-at j + off = omega arith in
-        rw (← sum) (automatic-pieces (sh .first) (touched a) (2 + (slot-width * j + off)) (automatic-is sh ∙ rw other) (keys-each (λ j a. cond (eqb j (key (leader cat c) i)) (at-key c wrote a) a) a ∙ sh .rest-keys) sh
+        let sum : slots-at + (slot-width * j + off) ≡ slot-at j + off = omega arith in
+        rw (← sum) (automatic-pieces (sh .first) (touched a) (slots-at + (slot-width * j + off)) (automatic-is sh ∙ rw other)
+        (keys-each (λ j a. cond (eqb j (key (leader cat c) i)) (at-key c wrote a) a) a ∙ sh .rest-keys) sh
         (slots-laid (sh .first) a (touched a) (t .created) (slot-width * j + off) w (rw leads g) (let z = q .1 in omega arith) (omega arith)))
       where
         one-slot : (k : ℕ) (e : Entry) → entry-bytes (at-key c wrote e) ≡ laid off w (entry-bytes e) → off + length w ≤ length (entry-bytes e) → length (entry-bytes e) ≤ slot-width

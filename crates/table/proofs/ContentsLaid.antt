@@ -1,26 +1,24 @@
 -- One attribute written: the bytes of an instance's contents, and of its entry, with the new content laid over the old.
-use Prim.Native.Nat.{ℕ, zero, suc, _+_, _*_, _≤_, _<_}
+use Prim.Native.Nat.{ℕ, suc, _+_, _≤_, _<_}
 use native.Mathlib.Omega.{arith}
 use mathlib.Core.Path.{_≡_, refl, sym, _∙_, ap}
-use mathlib.Core.Bool.{Bool, true, false, cond}
-use mathlib.Core.Option.{Option, none, some}
-use mathlib.Core.Logic.{_≢_}
+use mathlib.Core.Bool.{true, false}
+use mathlib.Core.Option.{some}
 use mathlib.Core.List.{List, [], _∷_, _++_}
 use lib.ListN.{length, length-append}
 use lib.Dec.{eqb}
-use Rattle.rules.specs.Maps.{_and_, _or_, Map, given, find, keys, every, each, at-key, among, gather, same}
+use Rattle.rules.specs.Maps.{Map, find, keys, every, each, at-key, among, gather, same}
 use Rattle.rules.specs.Bytes.{laid}
 use Rattle.rules.specs.Masks.{total}
 use Rattle.rules.specs.Catalogue.{Class, Catalogue, class}
 use Rattle.rules.specs.State.{Contents, Entry, overwrite}
 use Rattle.rules.specs.Legal.{legal-contents}
-use Rattle.rules.proofs.Laws.{cases, never, true-false, both, or-cases, or-none, same-eq, eqb-true, eqb-false, eqb-eq, eqb-ne}
-use Rattle.rules.proofs.MapLaws.{some-eq, none-some, Up, up-weaken, up-among, find-below, at-absent, Each}
+use Rattle.rules.proofs.Laws.{cases, never, true-false, both, or-cases, or-none, same-eq, eqb-true, eqb-false, eqb-eq, eqb-ne, or-left}
+use Rattle.rules.proofs.MapLaws.{some-eq, none-some, Up, up-among, at-absent, Each}
 use Rattle.store.specs.Layout.{contents-bytes, entry-bytes, contents-width}
-use Rattle.store.proofs.ContentsBack.{sized, length-sized, contents-length}
-use Rattle.table.specs.Spots.{offset, before}
-use Rattle.table.proofs.Laid.{laid-behind, laid-before}
-use Rattle.octets.proofs.Laid.{laid-all}
+use Rattle.store.proofs.ContentsBack.{sized, contents-length}
+use Rattle.store.specs.Positions.{offset, before}
+use Rattle.octets.proofs.Laid.{laid-behind, laid-before, laid-all}
 
 -- a number below a rising list isn't in it
 pub not-below : (b k : ℕ) (l : List ℕ) → Up b l → k < b → among k l ≡ false
@@ -114,3 +112,9 @@ module _ (cat : Catalogue) where
       let nk : eqb c (k .0) ≡ false = eqb-false c (k .0) (λ z. eqb-ne c (x .0) t (z ∙ sym n)) in
       let ih : before fam c + m ≤ length (entry-bytes e) = entry-room fam e c m r (cl .1) (both s .1) (both h .1) (rw t at fd) fit in
       rw (nk, la) (omega arith))
+
+-- of a family that is one class alone, nothing stands in front of it
+pub first-of : (c : ℕ) (fam : Map Class) → ((d : ℕ) → among d (keys fam) ≡ true → d ≡ c) → before fam c ≡ 0
+unfolding before keys among
+first-of c [] f = refl
+first-of c (e ∷ m) f = rw (eqb-true c (e .0) (sym (f (e .0) (or-left (among (e .0) (keys m)) (eqb-true (e .0) (e .0) refl)))))

@@ -1,38 +1,25 @@
--- A part of bytes: of an instance's contents, of its entry, of blocks of one length.
-use Prim.Native.Nat.{ℕ, zero, suc, _+_, _*_, _-_, _≤_, _<_}
+-- The part of an instance's contents that an attribute has, of an entry that an instance has, of blocks that one of them has.
+use Prim.Native.Nat.{ℕ, _+_, _*_, _≤_}
 use native.Mathlib.Omega.{arith}
 use native.Mathlib.Nat.{mul-suc}
-use mathlib.Core.Path.{_≡_, refl, sym, _∙_, ap}
-use mathlib.Core.Bool.{Bool, true, false, cond}
-use mathlib.Core.Option.{Option, none, some}
-use mathlib.Core.List.{List, [], _∷_, _++_}
-use lib.ListN.{length, take, drop, replicate, length-append, length-take, length-drop, length-replicate}
-use lib.Seq.{take-append-le, drop-append-le, drop-append-add, take-at, take-take, drop-drop, length-take-le}
+use mathlib.Core.Path.{_≡_, refl, sym, _∙_}
+use mathlib.Core.Bool.{true, false}
+use mathlib.Core.Option.{some}
+use mathlib.Core.List.{List, [], _∷_}
+use lib.ListN.{length}
+use lib.Seq.{take-at}
 use lib.Dec.{eqb}
-use Rattle.rules.specs.Maps.{_and_, _or_, Map, given, find, keys, every, gather, same}
-use Rattle.rules.specs.Bytes.{fill}
+use Rattle.rules.specs.Maps.{Map, find, keys, every, gather, same}
 use Rattle.rules.specs.Catalogue.{Class, Catalogue, class}
-use Rattle.rules.specs.State.{Contents, Entry, content}
+use Rattle.rules.specs.State.{Contents, Entry}
 use Rattle.rules.specs.Legal.{legal-contents}
-use Rattle.rules.proofs.Laws.{cases, never, true-false, both, eqb-true, eqb-false, eqb-eq, eqb-ne}
+use Rattle.rules.proofs.Laws.{cases, never, both, eqb-true, eqb-false, eqb-eq, eqb-ne}
 use Rattle.rules.proofs.MapLaws.{some-eq, none-some, Each}
 use Rattle.store.specs.Layout.{contents-bytes, entry-bytes, contents-width}
 use Rattle.store.proofs.ContentsBack.{sized, contents-length}
-use Rattle.store.proofs.BytesBack.{fill-keeps}
-use Rattle.table.specs.Spots.{position, before, offset}
-use Rattle.table.proofs.BlocksLaid.{further}
-
-abbrev pub part : ℕ → ℕ → List ℕ → List ℕ
-part o n b = take n (drop o b)
-
-pub part-behind : (x y : List ℕ) (o n : ℕ) → part (length x + o) n (x ++ y) ≡ part o n y
-part-behind x y o n = rw (drop-append-add x y o)
-
-pub part-before : (x y : List ℕ) (o n : ℕ) → o + n ≤ length x → part o n (x ++ y) ≡ part o n x
-part-before x y o n h = rw (drop-append-le o x y (omega arith), take-append-le n (drop o x) y (simp length-drop (omega arith)))
-
-pub part-fill : (m : ℕ) (x : List ℕ) (o n : ℕ) → length x ≤ m → o + n ≤ length x → part o n (fill m x) ≡ part o n x
-part-fill m x o n l h = rw (fill-keeps m x l, part-before x (take (m - length x) (replicate m 0)) o n h)
+use Rattle.octets.proofs.Parted.{part, part-behind, part-before}
+use Rattle.store.specs.Positions.{position, before, offset}
+use Rattle.store.proofs.Positions.{further}
 
 -- ---- contents
 

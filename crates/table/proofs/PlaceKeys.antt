@@ -18,21 +18,22 @@ use Rattle.rules.specs.Walks.{frozen}
 use Rattle.rules.specs.WellFormed.{WellFormed}
 use Rattle.rules.proofs.Laws.{cases, both, eqb-eq, find-some, has-among}
 use Rattle.rules.proofs.MapLaws.{some-eq, none-some, each-find, length-gather}
-use Rattle.rules.proofs.ByteLaws.{length-fill}
+use Rattle.rules.proofs.ByteLaws.{length-fill, fill-keeps}
 use Rattle.rules.proofs.Lookups.{created-known, leads-itself}
 use Rattle.rules.proofs.Families.{family-classes, family-has}
-use Rattle.store.specs.Layout.{ont-data-width, slots-length, place-width, place-length, places-length, entry-bytes, slot, place, code-table, contents-width, family-width, fits}
+use Rattle.store.specs.Layout.{ont-data-width, slots-length, place-width, place-length, places-length, entry-bytes, slot, place, code-table, contents-width, family-width, fits, key-length}
+use Rattle.store.specs.Layout.{live-bytes, in-use-at, places-at}
 use Rattle.store.specs.Decode.{read-place, read-places}
-use Rattle.store.proofs.BytesBack.{fill-keeps, two-back}
+use Rattle.store.proofs.BytesBack.{two-back}
 use Rattle.store.proofs.ContentsBack.{legal-keys}
 use Rattle.store.proofs.EntriesBack.{entry-length}
 use Rattle.store.proofs.Widths.{created-found, places-are-enough, place-fits, class-below}
 use Rattle.store.proofs.TablesBack.{place-has-its-length, is-place, places-back}
 use Rattle.store.proofs.Parts.{table-has-its-length}
-use Rattle.kept.proofs.Tables.{open-entry, LegalTable, LegalLive, frozen-legal}
-use Rattle.table.specs.Spots.{live-bytes, before, inside, offset}
+use Rattle.legality.proofs.Tables.{open-entry, LegalTable, LegalLive, frozen-legal}
+use Rattle.store.specs.Positions.{before, inside, offset}
 use Rattle.table.specs.Places.{InShape, place-keys, keys-in, one-holds, how-many-hold}
-use Rattle.table.proofs.Parted.{part, part-behind, part-before, part-fill}
+use Rattle.octets.proofs.Parted.{part, part-behind, part-before, part-fill}
 use Rattle.table.proofs.ContentsLaid.{offset-fits}
 use Rattle.table.proofs.TableRead.{fronted, InEntry, in-entry}
 
@@ -53,16 +54,16 @@ content-is n r v f = rw f refl
 -- the number that an attribute of an instance holds, read in the instance's place
 number-shown : (d a o k : ℕ) (e : Entry) (rest : List ℕ) (r : Contents) (v : List ℕ) → find d e ≡ some r → find a r ≡ some v
     → part o 2 (entry-bytes e) ≡ v → o + 2 ≤ length (entry-bytes e) → length (entry-bytes e) ≤ place-width
-    → two (place (k, e) ++ rest) (4 + o) ≡ number (content a (given (find d e) [] (λ r. r)))
+    → two (place (k, e) ++ rest) (key-length + o) ≡ number (content a (given (find d e) [] (λ r. r)))
 unfolding place bytes
 number-shown d a o k e rest r v fr fv shown room fit =
     let front : List ℕ = bytes 2 (class-of k) ++ bytes 2 (number-of k) in
     let lp : length (place (k, e)) ≡ place-length = place-has-its-length (k, e) in
     let la = length-append (place (k, e)) rest in
-    let here : part (4 + o) 2 (place (k, e) ++ rest) ≡ v =
-    part-before (place (k, e)) rest (4 + o) 2 (omega arith) ∙ part-behind front (fill place-width (entry-bytes e)) o 2
+    let here : part (key-length + o) 2 (place (k, e) ++ rest) ≡ v =
+    part-before (place (k, e)) rest (key-length + o) 2 (omega arith) ∙ part-behind front (fill place-width (entry-bytes e)) o 2
     ∙ part-fill place-width (entry-bytes e) o 2 fit room ∙ shown in
-    sym (number-of-two (place (k, e) ++ rest) (4 + o) (omega arith)) ∙ rw (here, fr, content-is a r v fv)
+    sym (number-of-two (place (k, e) ++ rest) (key-length + o) (omega arith)) ∙ rw (here, fr, content-is a r v fv)
 
 -- ---- where an attribute of a created class stands in its place
 
@@ -94,7 +95,7 @@ module _ (cat : Catalogue) (wf : WellFormed cat) (ft : fits cat ≡ true) (d a :
 -- ---- a table without class 2, with any byte in front
 
 module _ (cat : Catalogue) (wf : WellFormed cat) (ft : fits cat ≡ true) (u : Table) (h : LegalTable cat wf (automatic-keys cat) u) (x : List ℕ) (lx : length x ≡ 1) where
-  pub count-read : byte (fronted x u) 1 ≡ length (u .created)
+  pub count-read : byte (fronted x u) in-use-at ≡ length (u .created)
   unfolding code-table
   count-read = getD-at x (length (u .created)) (fill slots-length (gather slot (u .automatic)) ++ fill places-length (gather place (u .created))) 0 1 lx
 
@@ -108,24 +109,30 @@ module _ (cat : Catalogue) (wf : WellFormed cat) (ft : fits cat ≡ true) (u : T
   unused : List ℕ
   unused = take (places-length - length (gather place (u .created))) (replicate places-length 0)
 
-  places-read : drop (2 + slots-length) (fronted x u) ≡ gather place (u .created) ++ unused
+  places-read : drop (places-at) (fronted x u) ≡ gather place (u .created) ++ unused
   unfolding code-table unused
   places-read =
       let s : List ℕ = length (u .created) ∷ fill slots-length (gather slot (u .automatic)) in
       let p : List ℕ = fill places-length (gather place (u .created)) in
-      let lf : length (x ++ s) ≡ 2 + slots-length = length-append x s ∙ omega (arith, length-fill slots-length (gather slot (u .automatic))) in
+      let lf : length (x ++ s) ≡ places-at = length-append x s ∙ omega (arith, length-fill slots-length (gather slot (u .automatic))) in
       let flat : x ++ (s ++ p) ≡ (x ++ s) ++ p = sym (append-assoc x s p) in
       let fit : length (gather place (u .created)) ≤ places-length =
       omega (arith, length-gather place place-length place-has-its-length (u .created), h .in-places, places-are-enough cat ft) in
-      rw (flat, drop-at (x ++ s) p (2 + slots-length) lf) (fill-keeps places-length (gather place (u .created)) fit)
+      rw (flat, drop-at (x ++ s) p (places-at) lf) (fill-keeps places-length (gather place (u .created)) fit)
 
   pub keys-read : keys-in (fronted x u) ≡ keys (u .created)
-  keys-read = rw (count-read, places-read, ← keys-of-places cat (length (u .created)) (gather place (u .created) ++ unused), places-back cat wf ft (u .created) unused (h .all-created) (h .created-legal))
+  keys-read = rw (
+    count-read,
+    places-read,
+    ← keys-of-places cat (length (u .created)) (gather place (u .created) ++ unused),
+    places-back cat wf ft (u .created) unused (h .all-created)
+        (h .created-legal),
+  )
 
   module _ (d a i : ℕ) (st : among a (stored-numbers (class cat d)) ≡ true) (z : size-of (class cat d) a ≡ 2) where
     -- a place of class d holds the attribute's content
     content-read : (k : ℕ) (e : Entry) (rest : List ℕ) → class-of k ≡ d → is-created (class cat d .creation) ≡ true → legal-entry cat k e ≡ true
-        → two (place (k, e) ++ rest) (4 + in-place cat d a) ≡ number (content a (given (find d e) [] (λ r. r)))
+        → two (place (k, e) ++ rest) (key-length + in-place cat d a) ≡ number (content a (given (find d e) [] (λ r. r)))
     content-read k e rest kd cr le =
         let leads : leader cat d ≡ d = leads-itself d (class cat d .creation) cr in
         let ie : InEntry cat wf ft u h x lx d 0 (omega arith) e =
@@ -164,36 +171,38 @@ module _ (cat : Catalogue) (wf : WellFormed cat) (ft : fits cat ≡ true) (u : T
           all-read m rest (both t .1) (both g .1),
         )
 
-    pub naming-read : how-many-hold d (in-place cat d a) i (length (u .created)) (drop (2 + slots-length) (fronted x u)) ≡ how-many-name d a i (u .created)
+    pub naming-read : how-many-hold d (in-place cat d a) i (length (u .created)) (drop (places-at) (fronted x u)) ≡ how-many-name d a i (u .created)
     naming-read = rw places-read (all-read (u .created) unused (h .all-created) (h .created-legal))
 
 -- ---- the live table
 
-module _ (cat : Catalogue) (wf : WellFormed cat) (ft : fits cat ≡ true) (t : Table) (h : LegalLive cat wf t) where
-  front : List ℕ
+-- class 2's contents, in front
+module _ (t : Table) where
+  pub front : List ℕ
   front = fill ont-data-width (entry-bytes (entry (key ont-data 0) t))
 
-  one-byte : length front ≡ 1
+  pub one-byte : length front ≡ 1
   unfolding front
   one-byte = length-fill ont-data-width (entry-bytes (entry (key ont-data 0) t))
 
-  is-fronted : live-bytes t ≡ fronted front (frozen t)
+  pub is-fronted : live-bytes t ≡ fronted front (frozen t)
   unfolding live-bytes front
   is-fronted = refl
 
+module _ (cat : Catalogue) (wf : WellFormed cat) (ft : fits cat ≡ true) (t : Table) (h : LegalLive cat wf t) where
   pub live-in-shape : InShape (live-bytes t)
-  live-in-shape = rw is-fronted (in-shape cat wf ft (frozen t) (frozen-legal cat wf t h) front one-byte)
+  live-in-shape = rw (is-fronted t) (in-shape cat wf ft (frozen t) (frozen-legal cat wf t h) (front t) (one-byte t))
 
-  pub live-count : byte (live-bytes t) 1 ≡ length (t .created)
+  pub live-count : byte (live-bytes t) in-use-at ≡ length (t .created)
   unfolding frozen
-  live-count = rw is-fronted (count-read cat wf ft (frozen t) (frozen-legal cat wf t h) front one-byte)
+  live-count = rw (is-fronted t) (count-read cat wf ft (frozen t) (frozen-legal cat wf t h) (front t) (one-byte t))
 
   pub live-keys : keys-in (live-bytes t) ≡ keys (t .created)
   unfolding frozen
-  live-keys = rw is-fronted (keys-read cat wf ft (frozen t) (frozen-legal cat wf t h) front one-byte)
+  live-keys = rw (is-fronted t) (keys-read cat wf ft (frozen t) (frozen-legal cat wf t h) (front t) (one-byte t))
 
   -- attribute a of class d is stored in two bytes
   pub live-naming : (d a i : ℕ) → among a (stored-numbers (class cat d)) ≡ true → size-of (class cat d) a ≡ 2
-      → how-many-hold d (in-place cat d a) i (length (t .created)) (drop (2 + slots-length) (live-bytes t)) ≡ how-many-name d a i (t .created)
+      → how-many-hold d (in-place cat d a) i (length (t .created)) (drop (places-at) (live-bytes t)) ≡ how-many-name d a i (t .created)
   unfolding frozen
-  live-naming d a i st z = rw is-fronted (naming-read cat wf ft (frozen t) (frozen-legal cat wf t h) front one-byte d a i st z)
+  live-naming d a i st z = rw (is-fronted t) (naming-read cat wf ft (frozen t) (frozen-legal cat wf t h) (front t) (one-byte t) d a i st z)

@@ -1,5 +1,5 @@
 -- One attribute of one instance written: the table's bytes with the new content laid over the old, at the instance's spot.
-use Prim.Native.Nat.{ℕ, _+_, _-_, _≤_}
+use Prim.Native.Nat.{ℕ, _+_, _≤_}
 use native.Mathlib.Omega.{arith}
 use mathlib.Core.Path.{_≡_, refl, sym, _∙_, ap}
 use mathlib.Core.Bool.{Bool, true, not}
@@ -7,10 +7,10 @@ use mathlib.Core.Option.{Option, none, some}
 use mathlib.Core.List.{List, [], _∷_, _++_, append-assoc}
 use lib.ListN.{length, length-append}
 use lib.Dec.{eqb}
-use Rattle.rules.specs.Maps.{_and_, _or_, Map, find, keys, keep, every, all, gather}
-use Rattle.rules.specs.Bytes.{bytes, fill, laid}
-use Rattle.rules.specs.Catalogue.{Catalogue, class, key, ont-data}
-use Rattle.rules.specs.State.{Entry, Table, class-of, entry, contents}
+use Rattle.rules.specs.Maps.{Map, find, keys, keep, every, all, gather}
+use Rattle.rules.specs.Bytes.{fill, laid}
+use Rattle.rules.specs.Catalogue.{Catalogue, key, ont-data}
+use Rattle.rules.specs.State.{Entry, Table, class-of, entry}
 use Rattle.rules.specs.Legal.{automatic-keys}
 use Rattle.rules.specs.Walks.{frozen}
 use Rattle.rules.specs.WellFormed.{WellFormed}
@@ -18,9 +18,9 @@ use Rattle.rules.proofs.Laws.{both}
 use Rattle.rules.proofs.MapLaws.{some-eq, none-some, every-keys, keep-all}
 use Rattle.rules.proofs.ByteLaws.{length-fill}
 use Rattle.rules.proofs.Standing.{all-imp, stands, automatic-keys-stand}
-use Rattle.store.specs.Layout.{ont-data-width, slots-length, places-length, entry-bytes, slot, place, code-table}
-use Rattle.table.specs.Spots.{live-bytes, position, at-position, spot}
-use Rattle.table.proofs.Laid.{laid-behind, laid-before, fill-laid}
+use Rattle.store.specs.Layout.{ont-data-width, slots-length, places-length, entry-bytes, slot, place, code-table, live-bytes, places-at}
+use Rattle.table.specs.Spots.{at-position}
+use Rattle.octets.proofs.Laid.{laid-behind, laid-before, fill-laid}
 
 -- what stands at a position
 pub at-some {ℓ} : {X : Type ℓ} (f : ℕ → ℕ) (p : Option ℕ) (o : ℕ) → at-position f p ≡ some o → ((j : ℕ) → p ≡ some j → o ≡ f j → X) → X
@@ -46,13 +46,13 @@ in-pieces cat wf e a m ks =
     ∙ all-imp (stands cat) (λ k. not (eqb (class-of k) ont-data)) (λ k s. both (both s .1) .0) (automatic-keys cat) (automatic-keys-stand cat wf) in
     rw (keep-all p a all-others) (sym (append-assoc (fill ont-data-width (entry-bytes e)) (length m ∷ fill slots-length (gather slot a)) (fill places-length (gather place m))))
 
-pub front-length : (e : Entry) (a m : Map Entry) → length (fill ont-data-width (entry-bytes e) ++ (length m ∷ fill slots-length (gather slot a))) ≡ 2 + slots-length
+pub front-length : (e : Entry) (a m : Map Entry) → length (fill ont-data-width (entry-bytes e) ++ (length m ∷ fill slots-length (gather slot a))) ≡ places-at
 front-length e a m = length-append (fill ont-data-width (entry-bytes e)) (length m ∷ fill slots-length (gather slot a))
     ∙ omega (arith, length-fill ont-data-width (entry-bytes e), length-fill slots-length (gather slot a))
 
 -- the places changed
 pub places-laid : (e : Entry) (a m m′ : Map Entry) (q : ℕ) (w : List ℕ) → length m′ ≡ length m → gather place m′ ≡ laid q w (gather place m)
-    → q + length w ≤ length (gather place m) → length (gather place m) ≤ places-length → pieces e a m′ ≡ laid (2 + slots-length + q) w (pieces e a m)
+    → q + length w ≤ length (gather place m) → length (gather place m) ≤ places-length → pieces e a m′ ≡ laid (places-at + q) w (pieces e a m)
 places-laid e a m m′ q w l g room fit =
     rw (l, g, fill-laid places-length w (gather place m) q room fit)
     (laid-behind (fill ont-data-width (entry-bytes e) ++ (length m ∷ fill slots-length (gather slot a))) w (fill places-length (gather place m)) q

@@ -1,16 +1,16 @@
 -- An entry put in among the created ones, or taken out: the table's bytes.
-use Prim.Native.Nat.{ℕ, zero, suc, _+_, _*_, _-_, _≤_, _<_}
+use Prim.Native.Nat.{ℕ, suc, _+_, _*_, _-_, _≤_, _<_}
 use native.Mathlib.Omega.{arith}
 use mathlib.Core.Path.{_≡_, refl, sym, _∙_, ap}
-use mathlib.Core.Bool.{Bool, true, false}
-use mathlib.Core.Option.{Option, none, some}
+use mathlib.Core.Bool.{true, false}
+use mathlib.Core.Option.{some}
 use mathlib.Core.List.{List, [], _∷_, _++_, append-assoc}
-use lib.ListN.{length, take, drop, replicate, length-append, length-take, length-drop}
-use lib.Seq.{take-append-add, drop-append-add, take-append-le, length-take-le}
-use lib.Dec.{eqb, ltb}
-use Rattle.rules.specs.Maps.{Map, keys, put, keep, remove, among, gather}
+use lib.ListN.{length, take, drop, replicate, length-append}
+use lib.Seq.{take-append-add, drop-append-add}
+use lib.Dec.{ltb}
+use Rattle.rules.specs.Maps.{Map, keys, put, remove, among, gather}
 use Rattle.rules.specs.Bytes.{fill, laid}
-use Rattle.rules.specs.Catalogue.{Catalogue, key, ont-data}
+use Rattle.rules.specs.Catalogue.{Catalogue}
 use Rattle.rules.specs.State.{Entry, Table}
 use Rattle.rules.specs.Legal.{automatic-keys}
 use Rattle.rules.specs.Commands.{with-created}
@@ -18,13 +18,14 @@ use Rattle.rules.specs.WellFormed.{WellFormed}
 use Rattle.rules.proofs.Laws.{cases}
 use Rattle.rules.proofs.MapLaws.{rising-up, length-keys, length-gather}
 use Rattle.rules.proofs.ByteLaws.{length-fill}
-use Rattle.store.specs.Layout.{ont-data-width, slots-length, place-length, places-length, entry-bytes, slot, place, fits}
+use Rattle.store.specs.Layout.{ont-data-width, slots-length, place-length, places-length, entry-bytes, slot, place, fits, live-bytes, place-at, places-at}
 use Rattle.store.proofs.Widths.{places-are-enough}
 use Rattle.store.proofs.TablesBack.{place-has-its-length}
-use Rattle.kept.proofs.Tables.{LegalTable, LegalLive}
-use Rattle.table.specs.Spots.{live-bytes, position, rank, place-at, inserted, removed}
-use Rattle.table.proofs.Laid.{laid-behind, laid-before}
-use Rattle.table.proofs.Positions.{position-small}
+use Rattle.legality.proofs.Tables.{LegalLive}
+use Rattle.store.specs.Positions.{position}
+use Rattle.table.specs.Spots.{rank, inserted, removed}
+use Rattle.octets.proofs.Laid.{laid-behind, laid-before}
+use Rattle.store.proofs.Positions.{stands-at}
 use Rattle.table.proofs.BlocksMoved.{put-blocks, remove-blocks, fill-insert, fill-remove}
 use Rattle.table.proofs.TableLaid.{table-of, pieces, in-pieces, front-length, Shape, shape-of}
 
@@ -90,7 +91,7 @@ module _ (cat : Catalogue) (wf : WellFormed cat) (ft : fits cat ≡ true) (t : T
       let rk = rank-fits k (keys m) in
       let lk = length-keys m in
       let f : List ℕ = fill ont-data-width (entry-bytes (sh .first)) ++ (length m ∷ fill slots-length (gather slot (sh .rest))) in
-      let lf : length f ≡ 2 + slots-length = front-length (sh .first) (sh .rest) m in
+      let lf : length f ≡ places-at = front-length (sh .first) (sh .rest) m in
       let lfill : length (fill places-length g) ≡ places-length = length-fill places-length g in
       let placed : fill places-length (gather place (put k e m)) ≡ inserted q (place (k, e)) (fill places-length g) =
       ap (λ (b : List ℕ). fill places-length b) (put-blocks place place-length place-has-its-length k e m absent)
@@ -100,7 +101,7 @@ module _ (cat : Catalogue) (wf : WellFormed cat) (ft : fits cat ≡ true) (t : T
       ∙ rw (grown, placed) (
       sym (
       ap (λ (b : List ℕ). laid 1 (suc (length m) ∷ []) (inserted (place-at (rank k (keys m))) (place (k, e)) b)) (old-pieces sh)
-      ∙ ap (λ (b : List ℕ). laid 1 (suc (length m) ∷ []) b) (inserted-behind f (place (k, e)) (fill places-length g) (2 + slots-length) q lf (omega arith))
+      ∙ ap (λ (b : List ℕ). laid 1 (suc (length m) ∷ []) b) (inserted-behind f (place (k, e)) (fill places-length g) (places-at) q lf (omega arith))
       ∙ recount (sh .first) (sh .rest) m (suc (length m)) (inserted q (place (k, e)) (fill places-length g))
       )
       )
@@ -116,11 +117,11 @@ module _ (cat : Catalogue) (wf : WellFormed cat) (ft : fits cat ≡ true) (t : T
       let lg : length g ≡ length m * place-length = length-gather place place-length place-has-its-length m in
       let few = places-are-enough cat ft in
       let places = h .in-places in
-      let small = position-small k j (keys m) p in
+      let small = stands-at k j (keys m) p .0 in
       let lk = length-keys m in
       let n : ℕ = length (remove k m) in
       let f : List ℕ = fill ont-data-width (entry-bytes (sh .first)) ++ (length m ∷ fill slots-length (gather slot (sh .rest))) in
-      let lf : length f ≡ 2 + slots-length = front-length (sh .first) (sh .rest) m in
+      let lf : length f ≡ places-at = front-length (sh .first) (sh .rest) m in
       let placed : fill places-length (gather place (remove k m)) ≡ removed q place-length (fill places-length g) =
       ap (λ (b : List ℕ). fill places-length b) (remove-blocks place place-length place-has-its-length k j 0 m (rising-up (keys m) (h .rise)) p)
       ∙ fill-remove places-length q place-length g (omega arith) (omega arith)
@@ -129,7 +130,7 @@ module _ (cat : Catalogue) (wf : WellFormed cat) (ft : fits cat ≡ true) (t : T
       ∙ rw placed (
       sym (
       ap (λ (b : List ℕ). laid 1 (n ∷ []) (removed (place-at j) place-length b)) (old-pieces sh)
-      ∙ ap (λ (b : List ℕ). laid 1 (n ∷ []) b) (removed-behind f (fill places-length g) place-length (2 + slots-length) q lf)
+      ∙ ap (λ (b : List ℕ). laid 1 (n ∷ []) b) (removed-behind f (fill places-length g) place-length (places-at) q lf)
       ∙ recount (sh .first) (sh .rest) m n (removed q place-length (fill places-length g))
       )
       )

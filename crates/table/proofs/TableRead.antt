@@ -1,37 +1,38 @@
 -- What stands at an instance's spot: the content of its attributes. The table is one without class 2, with any byte in front.
-use Prim.Native.Nat.{ℕ, zero, suc, _+_, _*_, _-_, _≤_, _<_}
+use Prim.Native.Nat.{ℕ, _+_, _*_, _≤_, _<_}
 use native.Mathlib.Omega.{arith}
 use mathlib.Core.Path.{_≡_, refl, sym, _∙_, ap}
-use mathlib.Core.Bool.{Bool, true, false, not, cond}
+use mathlib.Core.Bool.{true, false}
 use mathlib.Core.Option.{Option, none, some}
 use mathlib.Core.Logic.{_≢_}
 use mathlib.Core.List.{List, [], _∷_, _++_, append-assoc}
-use lib.ListN.{length, take, drop, length-append}
-use lib.Dec.{eqb, leb}
-use Rattle.rules.specs.Maps.{_and_, _or_, Map, given, is-some, find, has, keys, every, among, all, gather, same, rising}
+use lib.ListN.{length, length-append}
+use Rattle.rules.specs.Maps.{_and_, Map, is-some, find, keys, among, gather}
 use Rattle.rules.specs.Bytes.{bytes, fill}
 use Rattle.rules.specs.Masks.{total}
 use Rattle.rules.specs.Catalogue.{Class, Catalogue, class, known, size-of, stored-numbers, is-created, leader, family, key, ont-data}
-use Rattle.rules.specs.State.{Contents, Entry, Table, class-of, number-of, entries, entry, holds, contents, content}
+use Rattle.rules.specs.State.{Contents, Entry, Table, class-of, number-of, entries, entry, holds, contents}
 use Rattle.rules.specs.Legal.{legal-contents, legal-entry, automatic-keys}
 use Rattle.rules.specs.WellFormed.{WellFormed}
-use Rattle.rules.proofs.Laws.{cases, never, true-false, not-true, both, or-left, eqb-true, eqb-false, eqb-eq, eqb-ne, eq-same, every-find, find-some, has-among, all-among}
-use Rattle.rules.proofs.MapLaws.{some-eq, none-some, find-append, length-keys, length-gather}
+use Rattle.rules.proofs.Laws.{cases, true-false, both, eqb-false, eq-same, every-find, find-some, has-among, all-among}
+use Rattle.rules.proofs.MapLaws.{find-append, length-keys, length-gather}
 use Rattle.rules.proofs.ByteLaws.{length-fill}
 use Rattle.rules.proofs.Lookups.{led-known}
 use Rattle.rules.proofs.Families.{family-classes, family-has, alone}
 use Rattle.rules.proofs.Standing.{stands, automatic-keys-stand, stands-not-created, stands-leads, key-class}
-use Rattle.store.specs.Layout.{slot-width, slots-length, place-width, place-length, places-length, contents-bytes, entry-bytes, slot, place, code-table, contents-width, family-width, fits}
+use Rattle.store.specs.Layout.{slot-width, slots-length, place-width, place-length, places-length, contents-bytes, entry-bytes, slot, place, code-table, contents-width}
+use Rattle.store.specs.Layout.{family-width, fits, slot-at, place-at, key-length, slots-at, places-at}
 use Rattle.store.proofs.ContentsBack.{legal-keys, legal-sized, contents-length}
 use Rattle.store.proofs.EntriesBack.{entry-length}
 use Rattle.store.proofs.Widths.{places-are-enough, slots-are-enough, place-fits, slot-fits}
 use Rattle.store.proofs.TablesBack.{slot-length, place-has-its-length}
-use Rattle.kept.proofs.Tables.{LegalEntry, open-entry, close-entry, LegalTable}
-use Rattle.kept.proofs.Holds.{There, holds-there, found-in}
-use Rattle.table.specs.Spots.{position, before, inside, offset, slot-at, place-at, at-position, spot-among, spot}
-use Rattle.table.proofs.Parted.{part, part-behind, part-before, part-fill, contents-part, entry-part, blocks-part}
-use Rattle.table.proofs.ContentsLaid.{offset-fits, entry-room}
-use Rattle.table.proofs.Positions.{position-among, position-found, position-small}
+use Rattle.legality.proofs.Tables.{LegalEntry, open-entry, close-entry, LegalTable}
+use Rattle.store.specs.Positions.{position, inside, offset}
+use Rattle.table.specs.Spots.{spot-among, spot}
+use Rattle.octets.proofs.Parted.{part, part-behind, part-before, part-fill}
+use Rattle.table.proofs.Parted.{contents-part, entry-part, blocks-part}
+use Rattle.table.proofs.ContentsLaid.{offset-fits, entry-room, first-of}
+use Rattle.store.proofs.Positions.{position-among, position-found, stands-at}
 use Rattle.table.proofs.TableLaid.{at-some}
 
 -- a byte in front of a table's bytes
@@ -42,13 +43,13 @@ module _ (cat : Catalogue) (wf : WellFormed cat) (ft : fits cat ≡ true) (u : T
   -- ---- the bytes, in pieces
 
   part-of-places : (q m : ℕ) → q + m ≤ length (gather place (u .created)) → length (gather place (u .created)) ≤ places-length
-      → part (2 + slots-length + q) m (fronted x u) ≡ part q m (gather place (u .created))
+      → part (places-at + q) m (fronted x u) ≡ part q m (gather place (u .created))
   unfolding code-table
   part-of-places q m room fit =
       let s : List ℕ = length (u .created) ∷ fill slots-length (gather slot (u .automatic)) in
       let p : List ℕ = fill places-length (gather place (u .created)) in
       let ls : length s ≡ 1 + slots-length = omega (arith, length-fill slots-length (gather slot (u .automatic))) in
-      let lf : length (x ++ s) ≡ 2 + slots-length = length-append x s ∙ omega arith in
+      let lf : length (x ++ s) ≡ places-at = length-append x s ∙ omega arith in
       let flat : x ++ (s ++ p) ≡ (x ++ s) ++ p = sym (append-assoc x s p) in
       rw (flat, ← lf, part-behind (x ++ s) p q m) (part-fill places-length (gather place (u .created)) q m fit room)
 
@@ -116,7 +117,7 @@ module _ (cat : Catalogue) (wf : WellFormed cat) (ft : fits cat ≡ true) (u : T
     created-spot o cr sp =
         let k : ℕ = key (leader cat c) i in
         let m : Map Entry = u .created in
-        at-some (λ j. place-at j + 4 + inside cat c) (position k (keys m)) o (rw cr at sp) (λ j p eq.
+        at-some (λ j. place-at j + key-length + inside cat c) (position k (keys m)) o (rw cr at sp) (λ j p eq.
         let f = position-found k j m p in
         let e : Entry = f .0 in
         let kc : class-of k ≡ leader cat c = key-class (leader cat c) i lt in
@@ -128,7 +129,7 @@ module _ (cat : Catalogue) (wf : WellFormed cat) (ft : fits cat ≡ true) (u : T
         let len : length (entry-bytes e) ≡ family-width (family cat (class-of k)) = entry-length cat wf k e (close-entry cat k e le) in
         let fitting : family-width (family cat (class-of k)) ≤ place-width = rw kc (place-fits cat ft wf (leader cat c) cr) in
         let lg = length-gather place place-length place-has-its-length m in
-        let small = position-small k j (keys m) p in
+        let small = stands-at k j (keys m) p .0 in
         let lk = length-keys m in
         let few = places-are-enough cat ft in
         let places = h .in-places in
@@ -141,8 +142,8 @@ module _ (cat : Catalogue) (wf : WellFormed cat) (ft : fits cat ≡ true) (u : T
               let inn : among n (stored-numbers (class cat c)) ≡ true = rw (← legal-keys cat (class cat c) (ie .its-contents) (ie .legal), ← has-among n (ie .its-contents), y) refl in
               let rm = ie .room n inn in
               let z : ℕ = size-of (class cat c) n in
-              let at : ℕ = 4 + (inside cat c + off n) in
-              let sum : o + off n ≡ 2 + slots-length + (place-length * j + at) = omega arith in
+              let at : ℕ = key-length + (inside cat c + off n) in
+              let sum : o + off n ≡ places-at + (place-length * j + at) = omega arith in
               rw sum (part-of-places (place-length * j + at) z (omega arith) (omega arith)
               ∙ blocks-part place place-length place-has-its-length m k j at z e p (f .1) (omega arith)
               ∙ part-behind front (fill place-width (entry-bytes e)) (inside cat c + off n) z
@@ -160,7 +161,7 @@ module _ (cat : Catalogue) (wf : WellFormed cat) (ft : fits cat ≡ true) (u : T
 
     -- an instance that is there by itself
     slot-spot : (o j : ℕ) → o ≡ slot-at j → position (key c i) (automatic-keys cat) ≡ some j → AtSpot o
-    unfolding holds contents entry slot before keys among
+    unfolding holds contents entry slot
     slot-spot o j eq p =
         let k : ℕ = key c i in
         let a : Map Entry = u .automatic in
@@ -174,12 +175,12 @@ module _ (cat : Catalogue) (wf : WellFormed cat) (ft : fits cat ≡ true) (u : T
         let kn : known cat c ≡ true = rw kc at (both sk .0) in
         let le : LegalEntry cat k e = open-entry cat k e (every-find (legal-entry cat) a (h .automatic-legal) k e (f .1)) in
         let ie : InEntry e = in-entry k e (kc ∙ sym leads) kn le in
-        let first-one : inside cat c ≡ 0 = rw leads (first-of (family cat c) (λ d m. alone cat wf c auto d m)) in
+        let first-one : inside cat c ≡ 0 = rw leads (first-of c (family cat c) (λ d m. alone cat wf c auto d m)) in
         let ent : find (key (leader cat c) i) (entries u) ≡ some e = rw (leads, find-append k a (u .created), f .1) in
         let len : length (entry-bytes e) ≡ family-width (family cat (class-of k)) = entry-length cat wf k e (close-entry cat k e le) in
         let fitting = slot-fits cat ft wf k sk in
         let lg = length-gather slot slot-width slot-length a in
-        let small = position-small k j (keys a) pk in
+        let small = stands-at k j (keys a) pk .0 in
         let lk = length-keys a in
         let la = ap length (h .automatic-keys) in
         let few = slots-are-enough cat ft in
@@ -193,46 +194,15 @@ module _ (cat : Catalogue) (wf : WellFormed cat) (ft : fits cat ≡ true) (u : T
               let rm = rw first-one at (ie .room n inn) in
               let z : ℕ = size-of (class cat c) n in
               let z0 : 0 + off n ≡ off n = omega arith in
-              let sum : o + off n ≡ 2 + (slot-width * j + off n) = omega arith in
+              let sum : o + off n ≡ slots-at + (slot-width * j + off n) = omega arith in
               rw sum (part-of-slots (slot-width * j + off n) z (omega arith) (omega arith)
               ∙ blocks-part slot slot-width slot-length a k j (off n) z e pk (f .1) (omega arith)
               ∙ part-fill slot-width (entry-bytes e) (off n) z (omega arith) (omega arith)
               ∙ rw (first-one, z0) at (ie .shown n v y));
         }
-      where
-        first-of : (fam : Map Class) → ((d : ℕ) → among d (keys fam) ≡ true → d ≡ c) → before fam c ≡ 0
-        first-of [] g = refl
-        first-of (e ∷ m) g = rw (eqb-true c (e .0) (sym (g (e .0) (or-left (among (e .0) (keys m)) (eqb-true (e .0) (e .0) refl)))))
 
     pub at-spot : c ≢ ont-data → (o : ℕ) → spot cat u c i ≡ some o → AtSpot o
     unfolding spot-among _and_
     at-spot other o sp = cases (is-created (class cat (leader cat c) .creation))
         (λ cr. created-spot o cr sp)
         (λ au. at-some slot-at (position (key c i) (automatic-keys cat)) o (rw (au, eqb-false c ont-data other) at sp) (λ j p eq. slot-spot o j eq p))
-
-    lost : (f : ℕ → ℕ) (p : Option ℕ) → at-position f p ≡ none → is-some p ≡ false
-    lost f none e = refl
-    lost f (some j) e = none-some (sym e)
-
-    -- nothing is at no spot
-    pub no-spot : c ≢ ont-data → spot cat u c i ≡ none → holds cat u c i ≡ false
-    unfolding spot-among _and_
-    no-spot other sp = cases (holds cat u c i)
-        (λ y.
-        let x : There cat u c i = holds-there cat u c i y in
-        let k : ℕ = key (leader cat c) i in
-        let kc : class-of k ≡ leader cat c = key-class (leader cat c) i lt in
-        found-in k (u .automatic) (u .created) (x .its-entry) (x .found)
-        (λ p.
-        let among-all : among k (automatic-keys cat) ≡ true = rw (← h .automatic-keys, ← has-among k (u .automatic), p) refl in
-        let sk : stands cat k ≡ true = all-among (stands cat) (automatic-keys cat) (automatic-keys-stand cat wf) k among-all in
-        let auto : is-created (class cat (leader cat c) .creation) ≡ false = rw kc at (stands-not-created cat wf k sk) in
-        let le : LegalEntry cat k (x .its-entry) = open-entry cat k (x .its-entry) (every-find (legal-entry cat) (u .automatic) (h .automatic-legal) k (x .its-entry) p) in
-        let inn : among c (keys (family cat (leader cat c))) ≡ true = rw (← kc, ← le .its-keys, ← has-among c (x .its-entry)) (x .has-class) in
-        let same-one : c ≡ leader cat c = alone cat wf (leader cat c) auto c inn in
-        true-false (rw (← same-one) at among-all) (sym (position-among (key c i) (automatic-keys cat)) ∙ lost slot-at (position (key c i) (automatic-keys cat)) (rw (auto, eqb-false c ont-data other) at sp)))
-        (λ n p.
-        let cr : is-created (class cat (leader cat c) .creation) ≡ true = rw kc at (every-find (λ k e. is-created (class cat (class-of k) .creation)) (u .created) (h .all-created) k (x .its-entry) p) in
-        true-false (rw (← has-among k (u .created), p) refl)
-        (sym (position-among k (keys (u .created))) ∙ lost (λ j. place-at j + 4 + inside cat c) (position k (keys (u .created))) (rw cr at sp))))
-        (λ y. y)

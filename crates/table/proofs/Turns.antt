@@ -13,8 +13,9 @@ use Rattle.rules.specs.Maps.{_and_}
 use Rattle.rules.specs.Bytes.{byte, two}
 use Rattle.rules.specs.Catalogue.{key}
 use Rattle.rules.proofs.Laws.{eqb-true, eqb-false, lt-ltb, le-ltb}
-use Rattle.store.specs.Layout.{slots-length, place-length}
-use Rattle.table.specs.Spots.{one-on, position, rank, place-at, at-position}
+use Rattle.store.specs.Layout.{place-length, place-at, in-use-at, places-at, key-length}
+use Rattle.store.specs.Positions.{one-on, position}
+use Rattle.table.specs.Spots.{rank, at-position}
 use Rattle.table.specs.Places.{place-keys, keys-in, one-holds, how-many-hold}
 
 pub two-drop : (b : List ℕ) (at k : ℕ) → two (drop at b) k ≡ two b (at + k)
@@ -34,8 +35,8 @@ keys-from b n i = place-keys (n - i) (drop (place-at i) b)
 abbrev pub key-of : List ℕ → ℕ → ℕ
 key-of b i = key (two b (place-at i)) (two b (place-at i + 2))
 
-pub keys-start : (b : List ℕ) (n : ℕ) → n ≡ byte b 1 → keys-from b n 0 ≡ keys-in b
-keys-start b n h = let e : n - 0 ≡ byte b 1 = omega arith in rw e
+pub keys-start : (b : List ℕ) (n : ℕ) → n ≡ byte b in-use-at → keys-from b n 0 ≡ keys-in b
+keys-start b n h = let e : n - 0 ≡ byte b in-use-at = omega arith in rw e
 
 module _ (b : List ℕ) (n i : ℕ) where
   pub keys-end : n ≤ i → keys-from b n i ≡ []
@@ -100,9 +101,9 @@ module _ (b : List ℕ) (n i k : ℕ) where
 abbrev pub hold-from : List ℕ → ℕ → ℕ → ℕ → ℕ → ℕ → ℕ
 hold-from b c at m n i = how-many-hold c at m (n - i) (drop (place-at i) b)
 
-pub hold-start : (b : List ℕ) (c at m n : ℕ) → n ≡ byte b 1
-    → hold-from b c at m n 0 ≡ how-many-hold c at m (byte b 1) (drop (2 + slots-length) b)
-hold-start b c at m n h = let e : n - 0 ≡ byte b 1 = omega arith in rw e
+pub hold-start : (b : List ℕ) (c at m n : ℕ) → n ≡ byte b in-use-at
+    → hold-from b c at m n 0 ≡ how-many-hold c at m (byte b in-use-at) (drop (places-at) b)
+hold-start b c at m n h = let e : n - 0 ≡ byte b in-use-at = omega arith in rw e
 
 module _ (b : List ℕ) (c at m n i : ℕ) where
   pub hold-end : n ≤ i → hold-from b c at m n i ≡ 0
@@ -120,16 +121,16 @@ module _ (b : List ℕ) (c at m n i : ℕ) where
   class-is : two b (place-at i) ≡ c → eqb (two (drop (place-at i) b) 0) c ≡ true
   class-is p = eqb-true (two (drop (place-at i) b) 0) c (two-start b (place-at i) ∙ p)
 
-  number-is : two (drop (place-at i) b) (4 + at) ≡ two b (place-at i + (4 + at))
-  number-is = two-drop b (place-at i) (4 + at)
+  number-is : two (drop (place-at i) b) (key-length + at) ≡ two b (place-at i + (key-length + at))
+  number-is = two-drop b (place-at i) (key-length + at)
 
-  pub hold-here : i < n → two b (place-at i) ≡ c → two b (place-at i + (4 + at)) ≡ m → hold-from b c at m n i ≡ 1 + hold-from b c at m n (i + 1)
+  pub hold-here : i < n → two b (place-at i) ≡ c → two b (place-at i + (key-length + at)) ≡ m → hold-from b c at m n i ≡ 1 + hold-from b c at m n (i + 1)
   unfolding _and_
-  hold-here h p q = rw (hold-next h, class-is p, eqb-true (two (drop (place-at i) b) (4 + at)) m (number-is ∙ q))
+  hold-here h p q = rw (hold-next h, class-is p, eqb-true (two (drop (place-at i) b) (key-length + at)) m (number-is ∙ q))
 
-  pub other-number : i < n → two b (place-at i) ≡ c → (two b (place-at i + (4 + at)) ≡ m → ⊥) → hold-from b c at m n i ≡ hold-from b c at m n (i + 1)
+  pub other-number : i < n → two b (place-at i) ≡ c → (two b (place-at i + (key-length + at)) ≡ m → ⊥) → hold-from b c at m n i ≡ hold-from b c at m n (i + 1)
   unfolding _and_
-  other-number h p q = rw (hold-next h, class-is p, eqb-false (two (drop (place-at i) b) (4 + at)) m (λ z. q (sym number-is ∙ z))) (omega arith)
+  other-number h p q = rw (hold-next h, class-is p, eqb-false (two (drop (place-at i) b) (key-length + at)) m (λ z. q (sym number-is ∙ z))) (omega arith)
 
   pub other-class : i < n → (two b (place-at i) ≡ c → ⊥) → hold-from b c at m n i ≡ hold-from b c at m n (i + 1)
   unfolding _and_

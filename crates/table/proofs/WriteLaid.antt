@@ -13,11 +13,12 @@ use Rattle.rules.specs.State.{Contents, Table, overwrite, change}
 use Rattle.rules.specs.Legal.{legal-contents}
 use Rattle.rules.specs.WellFormed.{WellFormed}
 use Rattle.rules.proofs.MapLaws.{rising-up, rising-keep}
-use Rattle.kept.proofs.NewContents.{attributes-in-order}
-use Rattle.store.specs.Layout.{contents-bytes, contents-width, fits}
+use Rattle.legality.proofs.NewContents.{attributes-in-order}
+use Rattle.store.specs.Layout.{contents-bytes, contents-width, fits, live-bytes}
 use Rattle.store.proofs.ContentsBack.{legal-keys, legal-sized, contents-length}
-use Rattle.kept.proofs.Tables.{LegalLive}
-use Rattle.table.specs.Spots.{live-bytes, offset, spot}
+use Rattle.legality.proofs.Tables.{LegalLive}
+use Rattle.store.specs.Positions.{offset}
+use Rattle.table.specs.Spots.{spot}
 use Rattle.table.proofs.ContentsLaid.{contents-laid, offset-fits}
 use Rattle.table.proofs.ChangeLaid.{change-laid}
 

@@ -1,2 +1,4 @@
 pub mod Spots
 pub mod Places
+pub mod Live
+pub mod Counts

@@ -2,23 +2,20 @@
 use Prim.Native.Nat.{ℕ, zero, suc, _+_, _≤_}
 use mathlib.Core.Path.{_≡_}
 use mathlib.Core.Bool.{cond}
-use mathlib.Core.Option.{Option, none, some}
 use mathlib.Core.List.{List, [], _∷_}
 use lib.ListN.{length, take, drop}
 use lib.Dec.{eqb}
 use Rattle.rules.specs.Maps.{_and_}
 use Rattle.rules.specs.Bytes.{byte, two}
 use Rattle.rules.specs.Catalogue.{key}
-use Rattle.store.specs.Layout.{slots-length, place-count, place-length, table-length}
-use Rattle.table.specs.declared.Found.{Found}
-use Rattle.table.specs.declared.Found.the-variants.{At, Nothing}
+use Rattle.store.specs.Layout.{place-count, place-length, key-length, block-length, in-use-at, places-at}
 use Rattle.table.specs.declared.Which.{Which}
 use Rattle.table.specs.declared.Which.the-variants.{Live, Frozen}
 
 -- bytes of a table's length, with no more places in use than there are
 pub record InShape (b : List ℕ) : Type 0 where
-  pub long : length b ≡ 1 + table-length
-  pub few : byte b 1 ≤ place-count
+  pub long : length b ≡ block-length
+  pub few : byte b in-use-at ≤ place-count
 
 -- the keys of the first n places
 unfoldable pub place-keys : ℕ → List ℕ → List ℕ
@@ -27,21 +24,16 @@ place-keys (suc n) b = key (two (take place-length b) 0) (two (take place-length
 
 -- the keys of the places in use
 abbrev pub keys-in : List ℕ → List ℕ
-keys-in b = place-keys (byte b 1) (drop (2 + slots-length) b)
+keys-in b = place-keys (byte b in-use-at) (drop places-at b)
 
 -- 1 if a place is of class c and holds the number i in two bytes of its contents, and 0 if not
 abbrev pub one-holds : ℕ → ℕ → ℕ → List ℕ → ℕ
-one-holds c at i b = cond (eqb (two b 0) c and eqb (two b (4 + at)) i) 1 0
+one-holds c at i b = cond (eqb (two b 0) c and eqb (two b (key-length + at)) i) 1 0
 
 -- how many of the first n places are of the class and hold the number
 unfoldable pub how-many-hold : ℕ → ℕ → ℕ → ℕ → List ℕ → ℕ
 how-many-hold c at i zero b = 0
 how-many-hold c at i (suc n) b = one-holds c at i b + how-many-hold c at i n (drop place-length b)
-
--- what the code found, as a position
-abbrev pub found-of : Found → Option ℕ
-found-of (At j) = some j
-found-of Nothing = none
 
 -- one of two tables
 abbrev pub chosen : Which → List ℕ → List ℕ → List ℕ

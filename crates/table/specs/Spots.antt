@@ -1,39 +1,21 @@
 -- Where an instance's contents stand in the bytes of a table.
-use Prim.Native.Nat.{ℕ, zero, suc, _+_, _*_, _-_}
-use mathlib.Core.Bool.{Bool, true, false, cond}
+use Prim.Native.Nat.{ℕ, suc, _+_, _-_}
+use mathlib.Core.Bool.{cond}
 use mathlib.Core.Option.{Option, none, some}
 use mathlib.Core.List.{List, [], _∷_, _++_}
 use lib.ListN.{length, take, drop, replicate}
 use lib.Dec.{eqb, ltb}
-use Rattle.rules.specs.Maps.{_and_, Map, given, keys}
-use Rattle.rules.specs.Bytes.{fill}
-use Rattle.rules.specs.Catalogue.{Class, Catalogue, class, is-created, leader, family, key, ont-data}
-use Rattle.rules.specs.State.{Table, entry}
+use Rattle.rules.specs.Maps.{_and_, keys}
+use Rattle.rules.specs.Catalogue.{Catalogue, class, is-created, leader, key, ont-data}
+use Rattle.rules.specs.State.{Table}
 use Rattle.rules.specs.Legal.{automatic-keys}
-use Rattle.rules.specs.Walks.{frozen}
-use Rattle.store.specs.Layout.{ont-data-width, slot-width, slots-length, place-length, entry-bytes, code-table, contents-width}
-use Rattle.store.specs.Decode.{read-live}
-unfoldable pub use Rattle.store.specs.Positions.{position, before, offset}
-pub use Rattle.store.specs.Positions.{one-on, inside}
-
--- a byte in front, then a table: class 2's contents before the live one, a mark before the frozen one
-unfoldable pub live-bytes : Table → List ℕ
-live-bytes t = fill ont-data-width (entry-bytes (entry (key ont-data 0) t)) ++ code-table (frozen t)
-
-unfoldable pub live-of : Catalogue → List ℕ → Table
-live-of cat b = read-live cat (take ont-data-width b) (drop ont-data-width b)
+use Rattle.store.specs.Positions.{position, inside}
+use Rattle.store.specs.Layout.{key-length, slot-at, place-at}
 
 -- how many numbers of a rising list come before k
 unfoldable pub rank : ℕ → List ℕ → ℕ
 rank k [] = 0
 rank k (x ∷ l) = cond (ltb k x) 0 (suc (rank k l))
-
--- in bytes with one byte in front: the number of places in use, the slots, the places
-abbrev pub slot-at : ℕ → ℕ
-slot-at j = 2 + slot-width * j
-
-abbrev pub place-at : ℕ → ℕ
-place-at j = 2 + slots-length + place-length * j
 
 abbrev pub at-position : (ℕ → ℕ) → Option ℕ → Option ℕ
 at-position f none = none
@@ -43,7 +25,7 @@ at-position f (some j) = some (f j)
 unfoldable pub spot-among : Catalogue → List ℕ → ℕ → ℕ → Option ℕ
 spot-among cat made c i =
     cond (is-created (class cat (leader cat c) .creation))
-    (at-position (λ j. place-at j + 4 + inside cat c) (position (key (leader cat c) i) made))
+    (at-position (λ j. place-at j + key-length + inside cat c) (position (key (leader cat c) i) made))
     (cond (eqb c ont-data and eqb i 0) (some 0) (at-position slot-at (position (key c i) (automatic-keys cat))))
 
 abbrev pub spot : Catalogue → Table → ℕ → ℕ → Option ℕ

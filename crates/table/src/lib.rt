@@ -1,24 +1,23 @@
 // The table in its bytes: where an instance stands, and what is read and written there. A table's bytes, called a block, are
-// one byte in front, the number of places in use, four slots of 15 bytes, and forty places of 39 bytes, those in use first.
+// one byte in front, the number of places in use, the slots, and the places, those in use first (`store::layout`).
+pub mod counter;
+pub mod instances;
+
+use class_tables::Found;
+use store::layout::IN_USE;
+use store::layout::KEY;
+use store::layout::PLACE;
+use store::layout::PLACES;
 ghost use mathlib.Core.Path.{_≡_};
 ghost use mathlib.Core.List.{[], _∷_};
 ghost use Prim.Native.Nat.{suc, _+_, _-_, _<_, _≤_};
 ghost use lib.ListN.{length, take, drop};
 ghost use Rattle.rules.specs.Bytes.{byte, laid};
-ghost use Rattle.store.specs.Layout.{slots-length, place-count, place-width, place-length};
-ghost use Rattle.table.specs.Spots.{position, rank, place-at, inserted, removed};
-ghost use Rattle.table.specs.Places.{InShape, keys-in, how-many-hold, found-of, chosen};
-
-// Where the places begin in a block.
-pub const PLACES: usize = 62;
-
-// The length of a place: class, number, contents.
-pub const PLACE: usize = 39;
-
-pub enum Found {
-    At(usize),
-    Nothing,
-}
+ghost use Rattle.store.specs.Layout.{place-count, place-width, place-length, place-at, in-use-at, places-at};
+ghost use Rattle.store.specs.Positions.{position};
+ghost use Rattle.table.specs.Spots.{rank, inserted, removed};
+ghost use Rattle.table.specs.Places.{InShape, keys-in, how-many-hold, chosen};
+ghost use Rattle.class_tables.specs.Finding.{found-of};
 
 // The live table, or the frozen copy of an upload.
 pub enum Which {
@@ -28,10 +27,10 @@ pub enum Which {
 
 // How many places of a block are in use.
 pub fn in_use(b: &[u8]) -> usize
-    requires { ⌜ 1 < length (now b) ⌝ }
-    ensures { λ r. ⌜ r ≡ byte (now (b .entry)) 1 ⌝ }
+    requires { ⌜ in-use-at < length (now b) ⌝ }
+    ensures { λ r. ⌜ r ≡ byte (now (b .entry)) in-use-at ⌝ }
 {
-    octets::wide(b[1]) as usize
+    octets::wide(b[IN_USE]) as usize
 }
 
 // Which place has a key, if one has.
@@ -69,7 +68,7 @@ pub fn rank_of(b: &[u8], key: u32) -> usize
 // How many places are of a class and hold a number in two bytes of their contents.
 pub fn naming(b: &[u8], class: u16, at: usize, number: u16) -> usize
     requires { ⌜ InShape (now b) × (at + 2 ≤ place-width) ⌝ }
-    ensures { λ r. ⌜ r ≡ how-many-hold class at number (byte (now (b .entry)) 1) (drop (2 + slots-length) (now (b .entry))) ⌝ }
+    ensures { λ r. ⌜ r ≡ how-many-hold class at number (byte (now (b .entry)) in-use-at) (drop places-at (now (b .entry))) ⌝ }
 {
     let n = in_use(b);
     let mut count: usize = 0;
@@ -77,7 +76,7 @@ pub fn naming(b: &[u8], class: u16, at: usize, number: u16) -> usize
     while i < n {
         let p = PLACES + PLACE * i;
         if octets::number_at(b, p) == class {
-            if octets::number_at(b, p + (4 + at)) == number {
+            if octets::number_at(b, p + (KEY + at)) == number {
                 count += 1;
             }
         }
@@ -88,24 +87,24 @@ pub fn naming(b: &[u8], class: u16, at: usize, number: u16) -> usize
 
 // Puts a place in at position j, below the number of places in use or at it: those behind it move up.
 pub fn insert_place(b: &mut [u8], j: usize, r: &[u8])
-    requires { ⌜ InShape (now b) × (byte (now b) 1 < place-count) × (j ≤ byte (now b) 1) × (length (now r) ≡ place-length) ⌝ }
-    ensures { λ _. ⌜ now (b .exit) ≡ laid 1 (suc (byte (now (b .entry)) 1) ∷ []) (inserted (place-at j) (now (r .entry)) (now (b .entry))) ⌝ }
+    requires { ⌜ InShape (now b) × (byte (now b) in-use-at < place-count) × (j ≤ byte (now b) in-use-at) × (length (now r) ≡ place-length) ⌝ }
+    ensures { λ _. ⌜ now (b .exit) ≡ laid in-use-at (suc (byte (now (b .entry)) in-use-at) ∷ []) (inserted (place-at j) (now (r .entry)) (now (b .entry))) ⌝ }
 {
-    let n = b[1];
+    let n = b[IN_USE];
     let a = PLACES + PLACE * j;
     octets::insert_front(&mut b[a..], r);
-    b[1] = n + 1;
+    b[IN_USE] = n + 1;
 }
 
 // Takes the place at position j out: those behind it move down, and zeros follow.
 pub fn remove_place(b: &mut [u8], j: usize)
-    requires { ⌜ InShape (now b) × (j < byte (now b) 1) ⌝ }
-    ensures { λ _. ⌜ now (b .exit) ≡ laid 1 ((byte (now (b .entry)) 1 - 1) ∷ []) (removed (place-at j) place-length (now (b .entry))) ⌝ }
+    requires { ⌜ InShape (now b) × (j < byte (now b) in-use-at) ⌝ }
+    ensures { λ _. ⌜ now (b .exit) ≡ laid in-use-at ((byte (now (b .entry)) in-use-at - 1) ∷ []) (removed (place-at j) place-length (now (b .entry))) ⌝ }
 {
-    let n = b[1];
+    let n = b[IN_USE];
     let a = PLACES + PLACE * j;
     octets::remove_front(&mut b[a..], PLACE);
-    b[1] = n - 1;
+    b[IN_USE] = n - 1;
 }
 
 // Returns an attribute's bytes from one of two lent slices, live table or frozen copy.

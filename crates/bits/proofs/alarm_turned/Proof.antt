@@ -1,5 +1,5 @@
 use mathlib.Core.Bool.{true, false}
-use Rattle.bits.proofs.Every.{turned-is}
+use Rattle.bits.proofs.Turned.{turned-is}
 use borrow.Author.Needs.{needs}
 use Rattle.bits.proofs.alarm_turned.Statement.{statement}
 use Rattle.bits.proofs.alarm_turned.Tie as tie

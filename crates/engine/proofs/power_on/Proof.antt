@@ -1,49 +1,55 @@
-use mathlib.Core.Bool.{true, false}
-use Rattle.engine.proofs.Entered.{too-short, no-product, fresh-one}
+use Rattle.engine.proofs.Entered.{too-short, fresh-one, no-product}
 use borrow.Author.Needs.{needs}
 use Rattle.engine.proofs.power_on.Statement.{statement}
 use Rattle.engine.proofs.power_on.Tie as tie
 use Rattle.engine.proofs.power_on.Reads as reads
 use Rattle.engine.proofs.power_on.Lts as lts
-use Rattle.resetting.proofs.write_fresh.Reads as write-fresh-reads
+use Rattle.class_tables.proofs.built.product_at.Reads as product-at-reads
+use Rattle.reset_command.proofs.write_fresh.Reads as write-fresh-reads
 
 returns : tie.Need-returns
 returns c =
-    too-short (c .before .before .args .store .now) _ (c .if1 .taken)
+    too-short (c .before .before .args .store .now) (c .before .before .args .product) (c .if1 .taken)
+
+product-at-requires : tie.Need-product-at-requires
+product-at-requires c κs = search needs
+
+enum-known-named : tie.Need-enum-known-named
+enum-known-named c = search needs
 
 write-fresh-requires : tie.Need-write-fresh-requires
 write-fresh-requires c κs = search needs
 
-write-fresh-requires-2 : tie.Need-write-fresh-requires-2
-write-fresh-requires-2 c κs = search needs
-
-returns-2 : tie.Need-returns-2
-returns-2 c =
-    no-product (c .before .before .before .args .store .now) (c .before .if1 .left) _ (c .match .rest .0 .1) (c .match .rest .1)
+enum-told : tie.Need-enum-told
+enum-told c = search needs
 
 same-length : tie.Need-same-length
 same-length c = search needs
 
+returns-2 : tie.Need-returns-2
+returns-2 c =
+    let at-write-fresh = c .before .before in
+    let at-named = at-write-fresh .before .before .before in
+    let at-product-at = at-named .before .before in
+    let at-if1 = at-product-at .before in
+    let entry = at-if1 .before .before in
+    let a = entry .args in
+    fresh-one (a .store .now) (at-if1 .if1 .left) (a .product) (at-product-at .product-at .ensures) _ (at-named .named .given .1) _ (at-write-fresh .write-fresh .ensures)
+
 returns-3 : tie.Need-returns-3
 returns-3 c =
-    fresh-one (c .before .before .before .before .before .before .before .args .store .now) (c .before .before .before .before .before .if1 .left) _ false _ (c .before .before .before .before .match .keys1) (c .before .before .write-fresh .ensures)
-
-same-length-2 : tie.Need-same-length-2
-same-length-2 c = search needs
-
-returns-4 : tie.Need-returns-4
-returns-4 c =
-    fresh-one (c .before .before .before .before .before .before .before .args .store .now) (c .before .before .before .before .before .if1 .left) _ true _ (c .before .before .before .before .match .keys2) (c .before .before .write-fresh2 .ensures)
+    let a = c .before .before .before .before .before .args in
+    no-product (a .store .now) (c .before .before .before .if1 .left) (a .product) (c .before .before .product-at .ensures) (c .enum-told .given .1)
 
 pub power-on-spec : {M : Type 1} → statement M
 power-on-spec =
     tie.close
     (tie.spec
     returns
+    product-at-requires
+    enum-known-named
     write-fresh-requires
-    write-fresh-requires-2
-    returns-2
+    enum-told
     same-length
-    returns-3
-    same-length-2
-    returns-4)
+    returns-2
+    returns-3)

@@ -1,15 +1,15 @@
 use native.Mathlib.Omega.{arith}
 use mathlib.Core.Path.{sym, _∙_}
-use Rattle.engine.proofs.Repeated.{not-dropped-long, dropped-as, answered-anew, answered-again}
+use Rattle.engine.proofs.Repeated.{not-dropped-long, memory-whole, dropped-as, answered-anew, answered-again}
 use borrow.Author.Needs.{needs}
 use Rattle.engine.proofs.take_message.Statement.{statement}
 use Rattle.engine.proofs.take_message.Tie as tie
 use Rattle.engine.proofs.take_message.Reads as reads
 use Rattle.engine.proofs.take_message.Lts as lts
 use Rattle.engine.proofs.answer_anew.Reads as answer-anew-reads
-use Rattle.frame.proofs.message_drop.Reads as message-drop-reads
-use Rattle.memory.proofs.is_repeat.Reads as is-repeat-reads
-use Rattle.memory.proofs.recall.Reads as recall-reads
+use Rattle.message_frame.proofs.message_drop.Reads as message-drop-reads
+use Rattle.remembered_command.proofs.is_repeat.Reads as is-repeat-reads
+use Rattle.remembered_command.proofs.recall.Reads as recall-reads
 
 message-drop-requires : tie.Need-message-drop-requires
 message-drop-requires c κs = search needs
@@ -17,24 +17,43 @@ message-drop-requires c κs = search needs
 returns : tie.Need-returns
 returns c =
     let a = c .before .before .before .before .before .args in
-    let pre = c .before .before .before .before .before .pre in
-    dropped-as (a .large) (a .store .now) (a .m .now) (a .reply .now) (pre .0) _ (c .before .message-drop .ensures) (c .if1 .taken)
+    dropped-as (a .product) (a .store .now) (a .m .now) (a .reply .now) (c .before .before .before .before .before .pre .0) _ (c .before .message-drop .ensures) (c .if1 .taken)
+
+sub-is-repeat : tie.Need-sub-is-repeat
+sub-is-repeat c = search needs
+
+part-is-repeat-start : tie.Need-part-is-repeat-start
+part-is-repeat-start c = search needs
+
+part-is-repeat-end : tie.Need-part-is-repeat-end
+part-is-repeat-end c = search needs
 
 is-repeat-requires : tie.Need-is-repeat-requires
 is-repeat-requires c κs =
-    let a = c .before .before .before .before .before .before .args in
-    let pre = c .before .before .before .before .before .before .pre in
-    let long = pre .0 .long in
-    (omega arith, not-dropped-long (a .m .now) (sym (c .before .if1 .left) ∙ c .before .before .message-drop .ensures))
+    let a = c .before .before .before .before .before .before .before .args in
+    let l = not-dropped-long (a .m .now) (sym (c .before .before .if1 .left) ∙ c .before .before .before .message-drop .ensures) in
+    (memory-whole (a .product) (a .store .now) (a .m .now) (a .reply .now) (c .before .before .before .before .before .before .before .pre .0), omega arith)
+
+sub-recall : tie.Need-sub-recall
+sub-recall c = search needs
+
+part-recall-start : tie.Need-part-recall-start
+part-recall-start c = search needs
+
+part-recall-end : tie.Need-part-recall-end
+part-recall-end c = search needs
 
 recall-requires : tie.Need-recall-requires
 recall-requires c κs = search needs
 
 answer-anew-requires : tie.Need-answer-anew-requires
 answer-anew-requires c κs =
-    let a = c .before .before .before .before .before .before .before .before .before .before .args in
-    let pre = c .before .before .before .before .before .before .before .before .before .before .pre in
-    (pre .0, not-dropped-long (a .m .now) (sym (c .before .before .before .before .before .if1 .left) ∙ c .before .before .before .before .before .before .message-drop .ensures), pre .1)
+    let e = c .before .before .before .before .before .before in (
+      e .before .before .before .before .before .pre .0,
+      not-dropped-long (e .before .before .before .before .before .args .m .now)
+          (sym (e .if1 .left) ∙ e .before .message-drop .ensures),
+      e .before .before .before .before .before .pre .1,
+    )
 
 same-length : tie.Need-same-length
 same-length c = search needs
@@ -44,9 +63,11 @@ same-length-2 c = search needs
 
 returns-2 : tie.Need-returns-2
 returns-2 c =
-    let a = c .before .before .before .before .before .before .before .before .before .before .before .before .before .args in
-    let pre = c .before .before .before .before .before .before .before .before .before .before .before .before .before .pre in
-    answered-again (a .large) (a .store .now) (a .m .now) (a .reply .now) (pre .0) (sym (c .before .before .before .before .before .before .before .before .if1 .left) ∙ c .before .before .before .before .before .before .before .before .before .message-drop .ensures) _ (pre .1) (sym (c .before .before .before .before .before .before .is-repeat .ensures) ∙ c .before .before .before .before .before .if2 .taken) (c .before .before .recall .ensures)
+    let e = c .before .before .before .before .before .before .before .before .before .before in
+    let a = e .before .before .before .before .before .args in
+    let clear = sym (e .if1 .left) ∙ e .before .message-drop .ensures in
+    let again = sym (c .before .before .before .before .before .before .before .is-repeat .ensures) ∙ c .before .before .before .before .before .before .if2 .taken in
+    answered-again (a .product) (a .store .now) (a .m .now) (a .reply .now) (e .before .before .before .before .before .pre .0) clear again (c .before .before .recall .ensures)
 
 same-length-3 : tie.Need-same-length-3
 same-length-3 c = search needs
@@ -56,9 +77,11 @@ same-length-4 c = search needs
 
 returns-3 : tie.Need-returns-3
 returns-3 c =
-    let a = c .before .before .before .before .before .before .before .before .before .before .before .before .before .before .before .args in
-    let pre = c .before .before .before .before .before .before .before .before .before .before .before .before .before .before .before .pre in
-    c .before .before .before .before .answer-anew .ensures ∙ answered-anew (a .large) (a .store .now) (a .m .now) (a .reply .now) (pre .0) (sym (c .before .before .before .before .before .before .before .before .before .before .if1 .left) ∙ c .before .before .before .before .before .before .before .before .before .before .before .message-drop .ensures) (sym (c .before .before .before .before .before .before .before .before .is-repeat .ensures) ∙ c .before .before .before .before .before .before .before .if2 .left)
+    let e = c .before .before .before .before .before .before .before .before .before .before .before in
+    let a = e .before .before .before .before .before .args in
+    let clear = sym (e .if1 .left) ∙ e .before .message-drop .ensures in
+    let new = sym (c .before .before .before .before .before .before .before .before .is-repeat .ensures) ∙ c .before .before .before .before .before .before .before .if2 .left in
+    c .before .before .before .before .answer-anew .ensures ∙ answered-anew (a .product) (a .store .now) (a .m .now) (a .reply .now) (e .before .before .before .before .before .pre .0) clear new
 
 pub take-message-spec : {M : Type 1} → statement M
 take-message-spec =
@@ -66,7 +89,13 @@ take-message-spec =
     (tie.spec
     message-drop-requires
     returns
+    sub-is-repeat
+    part-is-repeat-start
+    part-is-repeat-end
     is-repeat-requires
+    sub-recall
+    part-recall-start
+    part-recall-end
     recall-requires
     answer-anew-requires
     same-length

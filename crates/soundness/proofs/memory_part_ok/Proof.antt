@@ -6,6 +6,7 @@ use Rattle.soundness.proofs.Parts.{absent, present}
 use borrow.Author.Needs.{needs}
 use Rattle.soundness.proofs.memory_part_ok.Statement.{statement}
 use Rattle.soundness.proofs.memory_part_ok.Tie as tie
+use Rattle.store.specs.Layout.{memory-length}
 
 shared-slice-read-if1 : tie.Need-shared-slice-read-if1
 shared-slice-read-if1 c = search needs
@@ -35,7 +36,7 @@ returns-2 : tie.Need-returns-2
 unfolding _and_
 returns-2 c =
     let a = c .before .before .before .before .before .before .args in
-    rw (present memory-test (a .b .now) (c .before .before .before .if1 .left), c .memory-ok .ensures, to-the-end 88 1 (a .b .now) (search needs)) refl
+    rw (present memory-test (a .b .now) (c .before .before .before .if1 .left), c .memory-ok .ensures, to-the-end memory-length 1 (a .b .now) (search needs)) refl
 
 pub memory-part-ok-spec : {M : Type 1} → statement M
 memory-part-ok-spec =

@@ -1,6 +1,6 @@
 use mathlib.Core.Path.{sym}
 use Rattle.rules.specs.Maps.{_and_}
-use Rattle.rules.specs.Products.{cat-of}
+use Rattle.class_tables.specs.Built.{cat-of}
 use Rattle.soundness.proofs.Parts.{store-parts}
 use borrow.Author.Needs.{needs}
 use Rattle.soundness.proofs.parts_ok.Statement.{statement}
@@ -69,8 +69,14 @@ upload-part-ok-requires c κs = search needs
 returns : tie.Need-returns
 unfolding _and_
 returns c =
-    let a = c .before .before .before .before .before .before .before .before .before .before .before .args in
-    rw (c .before .before .before .before .before .before .before .before .memory-part-ok .ensures, c .before .before .before .before .before .before .alarms-ok .ensures, c .before .before .before .before .walk-part-ok .ensures, c .before .before .table-ok .ensures, c .upload-part-ok .ensures) (sym (store-parts (cat-of (a .large)) (a .s .now)))
+    let at-table-ok = c .before .before in
+    let at-walk-part-ok = at-table-ok .before .before in
+    let at-alarms-ok = at-walk-part-ok .before .before in
+    let at-memory-part-ok = at-alarms-ok .before .before in
+    let entry = at-memory-part-ok .before .before .before in
+    let a = entry .args in
+    rw (at-memory-part-ok .memory-part-ok .ensures, at-alarms-ok .alarms-ok .ensures, at-walk-part-ok .walk-part-ok .ensures, at-table-ok .table-ok .ensures, c .upload-part-ok .ensures)
+    (sym (store-parts (cat-of (a .product)) (a .s .now)))
 
 pub parts-ok-spec : {M : Type 1} → statement M
 parts-ok-spec =

@@ -5,17 +5,18 @@ use mathlib.Core.Path.{_≡_, refl, sym, _∙_}
 use lib.ListN.{drop}
 use borrow.Author.Needs.{needs}
 use borrow.Author.Tests.{not-true, not-false}
-use Rattle.rules.specs.Products.{cat-of}
+use Rattle.class_tables.specs.Built.{cat-of}
 use Rattle.soundness.specs.Tests.{places-test}
 use Rattle.soundness.proofs.Turns.{places-end, places-stop, places-next}
 use Rattle.soundness.proofs.places_ok.Statement.{statement}
 use Rattle.soundness.proofs.places_ok.Tie as tie
+use Rattle.store.specs.Layout.{place-length}
 
 abbrev Inv-loop : tie.InvT-loop
-Inv-loop large n b low₀ i₀ low i = (i ≤ n) × (places-test (cat-of large) (n - i) low (drop (i * 39) b) ≡ places-test (cat-of large) n 0 b)
+Inv-loop pr n b low₀ i₀ low i = (i ≤ n) × (places-test (cat-of pr) (n - i) low (drop (i * place-length) b) ≡ places-test (cat-of pr) n 0 b)
 
 abbrev μ-loop : tie.MeasureT-loop
-μ-loop large n b low₀ i₀ low i = n - i
+μ-loop pr n b low₀ i₀ low i = n - i
 
 loop-holds : tie.Need-loop-holds Inv-loop μ-loop
 loop-holds c = (search needs, rw (sub-zero (c .before .args .n)) refl)
@@ -43,8 +44,8 @@ returns c =
     let l = c .before .before .before .before in
     let a = l .before .before .args in
     let i = l .loop .i in
-    let n : i * 39 + 39 - i * 39 ≡ 39 = omega arith in
-    places-stop (cat-of (a .large)) (a .b .now) (a .n) i (l .loop .low) _ (l .loop .inv .1) (omega arith) (sym (rw n at (c .before .place-ok .ensures)) ∙ not-true _ (c .if1 .taken))
+    let n : i * place-length + place-length - i * place-length ≡ place-length = omega arith in
+    places-stop (cat-of (a .product)) (a .b .now) (a .n) i (l .loop .low) _ (l .loop .inv .1) (omega arith) (sym (rw n at (c .before .place-ok .ensures)) ∙ not-true _ (c .if1 .taken))
 
 sub-key-of : tie.Need-sub-key-of Inv-loop μ-loop
 sub-key-of c = search needs
@@ -72,9 +73,9 @@ loop-again c =
     let l = c .before .before .before .before .before .before in
     let a = l .before .before .args in
     let i = l .loop .i in
-    let n : i * 39 + 39 - i * 39 ≡ 39 = omega arith in (
+    let n : i * place-length + place-length - i * place-length ≡ place-length = omega arith in (
       omega arith,
-      places-next (cat-of (a .large)) (a .b .now) (a .n) i (l .loop .low) _ (l .loop .inv .1) (omega arith) (c .key-of .result)
+      places-next (cat-of (a .product)) (a .b .now) (a .n) i (l .loop .low) _ (l .loop .inv .1) (omega arith) (c .key-of .result)
           (sym (rw n at (c .before .before .before .place-ok .ensures)) ∙ not-false _ (c .before .before .if1 .left))
           (rw n at (c .key-of .ensures .0)),
     )
@@ -89,7 +90,7 @@ returns-2 : tie.Need-returns-2 Inv-loop μ-loop
 returns-2 c =
     let l = c .before .before in
     let a = l .before .before .args in
-    c .zeros-from .ensures ∙ places-end (cat-of (a .large)) (a .b .now) (a .n) (l .loop .i) (l .loop .low) _ (l .loop .inv .1) (omega arith) (omega arith)
+    c .zeros-from .ensures ∙ places-end (cat-of (a .product)) (a .b .now) (a .n) (l .loop .i) (l .loop .low) _ (l .loop .inv .1) (omega arith) (omega arith)
 
 pub places-ok-spec : {M : Type 1} → statement M
 places-ok-spec =

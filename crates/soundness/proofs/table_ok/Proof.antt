@@ -16,7 +16,7 @@ cast-n : tie.Need-cast-n
 cast-n c = search needs
 
 returns : tie.Need-returns
-returns c = let a = c .before .before .before .before .args in sym (too-many (a .large) (a .b .now) (search needs) (omega (arith, c .before .wide .ensures)))
+returns c = let a = c .before .before .before .before .args in sym (too-many (a .product) (a .b .now) (search needs) (omega (arith, c .before .wide .ensures)))
 
 sub-slots-ok : tie.Need-sub-slots-ok
 sub-slots-ok c = search needs
@@ -45,8 +45,11 @@ places-ok-requires c κs = search needs
 returns-2 : tie.Need-returns-2
 unfolding _and_
 returns-2 c =
-    let a = c .before .before .before .before .before .before .before .before .args in
-    rw (c .before .before .slots-ok .ensures, c .places-ok .ensures, c .before .before .before .before .before .wide .ensures .0) (sym (table-bytes (a .large) (a .b .now) (search needs) (omega (arith, c .before .before .before .before .before .wide .ensures))))
+    let at-slots-ok = c .before .before in
+    let at-wide = at-slots-ok .before .before .before in
+    let entry = at-wide .before .before .before in
+    let a = entry .args in
+    rw (at-slots-ok .slots-ok .ensures, c .places-ok .ensures, at-wide .wide .ensures .0) (sym (table-bytes (a .product) (a .b .now) (search needs) (omega (arith, at-wide .wide .ensures))))
 
 pub table-ok-spec : {M : Type 1} → statement M
 table-ok-spec =

@@ -1,8 +1,7 @@
 use mathlib.Core.Path.{refl, sym, _∙_}
 use Rattle.rules.specs.Maps.{_and_}
-use Rattle.rules.specs.Products.{cat-of}
+use Rattle.class_tables.specs.Built.{cat-of}
 use Rattle.soundness.specs.Tests.{table-test}
-use Rattle.soundness.proofs.Turns.{to-the-end}
 use Rattle.soundness.proofs.Parts.{absent, present}
 use borrow.Author.Needs.{needs}
 use Rattle.soundness.proofs.upload_part_ok.Statement.{statement}
@@ -15,19 +14,10 @@ zeros-from-requires : tie.Need-zeros-from-requires
 zeros-from-requires c κs = search needs
 
 returns : tie.Need-returns
-returns c = let a = c .before .before .before .before .args in c .zeros-from .ensures ∙ sym (absent (table-test (cat-of (a .large))) (a .b .now) (c .before .if1 .taken))
+returns c = let a = c .before .before .before .before .args in c .zeros-from .ensures ∙ sym (absent (table-test (cat-of (a .product))) (a .b .now) (c .before .if1 .taken))
 
 shared-slice-read-result : tie.Need-shared-slice-read-result
 shared-slice-read-result c = search needs
-
-sub-table-ok : tie.Need-sub-table-ok
-sub-table-ok c = search needs
-
-part-table-ok-start : tie.Need-part-table-ok-start
-part-table-ok-start c = search needs
-
-part-table-ok-end : tie.Need-part-table-ok-end
-part-table-ok-end c = search needs
 
 table-ok-requires : tie.Need-table-ok-requires
 table-ok-requires c κs = search needs
@@ -35,8 +25,8 @@ table-ok-requires c κs = search needs
 returns-2 : tie.Need-returns-2
 unfolding _and_
 returns-2 c =
-    let a = c .before .before .before .before .before .before .args in
-    rw (present (table-test (cat-of (a .large))) (a .b .now) (c .before .before .before .if1 .left), c .table-ok .ensures, to-the-end 1621 1 (a .b .now) (search needs)) refl
+    let a = c .before .before .before .before .before .args in
+    rw (present (table-test (cat-of (a .product))) (a .b .now) (c .before .before .if1 .left), c .table-ok .ensures) refl
 
 pub upload-part-ok-spec : {M : Type 1} → statement M
 upload-part-ok-spec =
@@ -46,8 +36,5 @@ upload-part-ok-spec =
     zeros-from-requires
     returns
     shared-slice-read-result
-    sub-table-ok
-    part-table-ok-start
-    part-table-ok-end
     table-ok-requires
     returns-2)

@@ -1,4 +1,4 @@
-use Prim.Native.Nat.{_+_, _*_, _-_}
+use Prim.Native.Nat.{_-_}
 use native.Mathlib.Omega.{arith}
 use native.Mathlib.Numerals.{add-one}
 use mathlib.Core.Path.{refl}
@@ -8,6 +8,7 @@ use Rattle.table.proofs.BlockMoved.{insert-back}
 use borrow.Author.Needs.{needs}
 use Rattle.table.proofs.insert_place.Statement.{statement}
 use Rattle.table.proofs.insert_place.Tie as tie
+use Rattle.store.specs.Layout.{in-use-at, place-at}
 
 slice-read-n : tie.Need-slice-read-n
 slice-read-n c = search needs
@@ -43,8 +44,8 @@ returns : tie.Need-returns
 returns c =
     let a = c .before .before .before .before .before .before .before .args in
     let f = c .before .before .insert-front in
-    let at = 62 + 39 * a .j in
-    insert-back (a .b .now) at (length (a .b .now) - at) refl (omega arith) (search needs) (a .r .now) (f .last .0) _ _ (add-one (byte (a .b .now) 1)) (f .ensures)
+    let at = place-at (a .j) in
+    insert-back (a .b .now) at (length (a .b .now) - at) refl (omega arith) (search needs) (a .r .now) (f .last .0) _ _ (add-one (byte (a .b .now) in-use-at)) (f .ensures)
 
 pub insert-place-spec : {M : Type 1} → statement M
 insert-place-spec =

@@ -2,7 +2,7 @@ use Prim.Native.Nat.{_-_, _≤_}
 use native.Mathlib.Omega.{arith}
 use mathlib.Core.Path.{_≡_, sym, _∙_, ap}
 use Rattle.table.specs.Places.{keys-in}
-use Rattle.table.specs.Spots.{position}
+use Rattle.store.specs.Positions.{position}
 use Rattle.table.proofs.Turns.{keys-from, keys-start, counted, counted-start, found-here, found-later, found-nowhere}
 use borrow.Author.Needs.{needs}
 use Rattle.table.proofs.place_of.Statement.{statement}

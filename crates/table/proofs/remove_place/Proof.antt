@@ -1,8 +1,8 @@
-use Prim.Native.Nat.{_+_, _*_, _-_}
+use Prim.Native.Nat.{_-_}
 use native.Mathlib.Omega.{arith}
 use mathlib.Core.Path.{refl}
 use lib.ListN.{length}
-use Rattle.store.specs.Layout.{place-length}
+use Rattle.store.specs.Layout.{place-length, place-at}
 use Rattle.table.proofs.BlockMoved.{remove-back}
 use borrow.Author.Needs.{needs}
 use Rattle.table.proofs.remove_place.Statement.{statement}
@@ -42,7 +42,7 @@ returns : tie.Need-returns
 returns c =
     let a = c .before .before .before .before .before .before .args in
     let f = c .before .before .remove-front in
-    let at = 62 + 39 * a .j in
+    let at = place-at (a .j) in
     remove-back (a .b .now) at (length (a .b .now) - at) refl (omega arith) (search needs) place-length (f .last .0) _ _ refl (f .ensures)
 
 pub remove-place-spec : {M : Type 1} → statement M

@@ -1,0 +1,3 @@
+pub mod AlarmBytes
+pub mod Shown
+pub mod Walked

@@ -1,4 +1,0 @@
-pub mod AlarmBytes
-pub mod Frozen
-pub mod Shown
-pub mod Walked

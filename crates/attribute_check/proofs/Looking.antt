@@ -1,0 +1,53 @@
+-- A line can be judged, and what its rule looks at is read where it stands.
+use Prim.Native.Nat.{ℕ, zero, suc, _+_, _≤_, _<_}
+use native.Mathlib.Omega.{arith}
+use mathlib.Core.Path.{_≡_, refl, sym, _∙_, ap}
+use mathlib.Core.Bool.{Bool}
+use mathlib.Core.Logic.{_≢_}
+use mathlib.Core.List.{List}
+use lib.ListN.{length, getD}
+use lib.Seq.{drop-cons}
+use Rattle.rules.specs.Bytes.{number, number-from}
+use Rattle.rules.specs.Catalogue.{Class}
+use Rattle.rules.specs.Catalogue as rules
+use Rattle.store.specs.Layout.{contents-width}
+use Rattle.class_tables.specs.declared.Rule.{Rule}
+use Rattle.class_tables.specs.declared.Rule.the-variants.{Pointer}
+use Rattle.class_tables.specs.declared.Attribute.{Attribute}
+use Rattle.class_tables.specs.Describes.{offset-of, DescribedIn, Looked}
+use Rattle.class_tables.proofs.Offsets.{is-among-stored, offset-fits}
+use Rattle.attribute_check.specs.Judges.{fixed-at, legal-at, legal-by, looked-at, Judgeable}
+use Rattle.rules.specs.Legal.{passes}
+
+-- what a line says, it can be judged by
+pub judgeable : {k : Class} {n : ℕ} {a : Attribute} → DescribedIn k n a → Judgeable k a
+judgeable d = record { wide = d .wide; looks = d .looks }
+
+-- and to be legal by it is to be legal for its attribute
+pub by-its-line : (there : ℕ → ℕ → Bool) {k : Class} {n : ℕ} {a : Attribute} → DescribedIn k n a → (b : List ℕ) (at : ℕ) (v : List ℕ) → legal-by there k b at a v ≡ legal-at there k b at n v
+unfolding legal-by legal-at
+by-its-line there {k} d b at v = ap (λ (x : rules.Attribute). passes there ((x .rule) v (fixed-at k b at))) (d .is)
+
+-- ---- where it stands
+
+module _ (k : Class) (n : ℕ) (b : List ℕ) (at : ℕ) (s : Looked k n) (room : at + contents-width k ≤ length b) where
+  inside : offset-of k n + 1 ≤ contents-width k
+  inside = let z = offset-fits k n (is-among-stored k n (s .is-there) (s .kept)) in let o = s .one in omega arith
+
+  pub looked-room : {r : Attribute} → DescribedIn k n r → at + r .at < length b
+  looked-room {r} d = let i = inside in let o : r .at ≡ offset-of k n = d .placed (s .kept) (s .is-there) in omega arith
+
+  looked-byte : number (fixed-at k b at n) ≡ getD b (at + offset-of k n) 0
+  unfolding fixed-at number-from
+  looked-byte =
+      let i = inside in
+      rw (s .fixed, s .one, drop-cons b (at + offset-of k n) 0 (omega arith)) (omega arith)
+
+  looked-number : (m : ℕ) (r : Rule) (c : ℕ) (others : ℕ → List ℕ) → r ≡ Pointer c → m ≢ 0 → number (others m) ≡ looked-at r m others
+  looked-number zero r c others e z = absurd (z refl)
+  looked-number (suc m) r c others e z = rw e refl
+
+  -- the byte that the code reads
+  pub looked-condition : {r : Attribute} → DescribedIn k n r → {x c : ℕ} {rule : Rule} → rule ≡ Pointer c → n ≢ 0 → x ≡ getD b (at + r .at) 0 → x ≡ looked-at rule n (fixed-at k b at)
+  looked-condition {r} d {x} {c} {rule} e z h =
+      h ∙ ap (λ (o : ℕ). getD b (at + o) 0) (d .placed (s .kept) (s .is-there)) ∙ sym looked-byte ∙ looked-number n rule c (fixed-at k b at) e z

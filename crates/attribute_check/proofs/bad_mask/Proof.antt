@@ -1,0 +1,115 @@
+use native.Mathlib.Omega.{arith}
+use mathlib.Core.Path.{sym, _∙_}
+use mathlib.Core.Logic.{⊎-elim}
+use borrow.Author.Needs.{needs}
+use Rattle.bits.proofs.MaskWalk.{bit-in, fewer-left}
+use Rattle.class_tables.specs.Built.{cat-of, class-for}
+use Rattle.class_tables.proofs.Views.{size-is}
+use Rattle.attribute_check.specs.Judges.{is-in}
+use Rattle.attribute_check.proofs.Marked.{Marked, nothing-marked, all-marked, part-room, part-sized, one-marked, none-marked}
+use Rattle.attribute_check.proofs.bad_mask.Statement.{statement}
+use Rattle.attribute_check.proofs.bad_mask.Tie as tie
+use Rattle.attribute_check.proofs.bad_mask.Reads as reads
+use Rattle.attribute_check.proofs.bad_mask.Lts as lts
+use Rattle.bits.proofs.bit_of.Reads as bit-of-reads
+use Rattle.bits.proofs.first_named.Reads as first-named-reads
+use Rattle.class_tables.proofs.attributes.attribute_of.Reads as attribute-of-reads
+use Rattle.attribute_check.proofs.is_legal.Reads as is-legal-reads
+use Rattle.class_tables.proofs.Tables.{described}
+use Rattle.attribute_check.proofs.Looking.{judgeable, by-its-line}
+
+abbrev Inv-loop : tie.InvT-loop
+Inv-loop live pr class asked v own at left₀ from₀ bad₀ left from bad = Marked (is-in (cat-of pr) live) (class-for pr class) own at asked v left from bad
+
+abbrev μ-loop : tie.MeasureT-loop
+μ-loop live pr class asked v own at left₀ from₀ bad₀ left from bad = left
+
+loop-holds : tie.Need-loop-holds Inv-loop μ-loop
+loop-holds c = nothing-marked _ _ _ _ _ _ (c .before .before .before .pre .1)
+
+first-named-requires : tie.Need-first-named-requires Inv-loop μ-loop
+first-named-requires c κs = search needs
+
+attribute-of-requires : tie.Need-attribute-of-requires Inv-loop μ-loop
+attribute-of-requires c κs = search needs
+
+add-to : tie.Need-add-to Inv-loop μ-loop
+add-to c =
+    let l = c .before .before .before .before .loop in
+    let z = part-room _ _ _ _ (l .inv) (c .before .before .first-named .ensures) (size-is (described (c .before .attribute-of .ensures))) in
+    omega arith
+
+bit-of-requires : tie.Need-bit-of-requires Inv-loop μ-loop
+bit-of-requires c κs = search needs
+
+sub-is-legal : tie.Need-sub-is-legal Inv-loop μ-loop
+sub-is-legal c = search needs
+
+part-is-legal-start : tie.Need-part-is-legal-start Inv-loop μ-loop
+part-is-legal-start c = search needs
+
+part-is-legal-end : tie.Need-part-is-legal-end Inv-loop μ-loop
+part-is-legal-end c =
+    let l = c .before .before .before .before .before .loop in
+    let z = part-room _ _ _ _ (l .inv) (c .before .before .before .first-named .ensures) (size-is (described (c .before .before .attribute-of .ensures))) in
+    omega arith
+
+is-legal-requires : tie.Need-is-legal-requires Inv-loop μ-loop
+is-legal-requires c κs =
+    let l = c .before .before .before .before .before .before .loop in
+    let d = described (c .before .before .before .attribute-of .ensures) in
+    let e = c .before .before .before .before .before .before .before .before .before .before in (
+      e .pre .0,
+      judgeable d,
+      part-sized _ _ _ _ (l .inv) (c .before .before .before .before .first-named .ensures) (size-is d) ∙ sym (size-is d),
+      e .pre .2,
+    )
+
+add-bad : tie.Need-add-bad Inv-loop μ-loop
+add-bad c =
+    let few = c .before .before .before .before .before .before .before .before .loop .inv .few in
+    let z = bit-in (c .before .before .before .before .before .before .first-named .ensures) (c .before .before .before .bit-of .ensures) in
+    omega arith
+
+sub-left : tie.Need-sub-left Inv-loop μ-loop
+sub-left c = bit-in (c .before .before .before .before .before .before .first-named .ensures) (c .before .before .before .bit-of .ensures)
+
+loop-less : tie.Need-loop-less Inv-loop μ-loop
+loop-less c = fewer-left (c .before .before .before .before .before .before .first-named .ensures) (c .before .before .before .bit-of .ensures)
+
+loop-again : tie.Need-loop-again Inv-loop μ-loop
+loop-again c =
+    let l = c .before .before .before .before .before .before .before .before .loop in
+    let f = c .before .before .before .before .before .before .first-named .ensures in
+    let b = c .before .before .before .bit-of .ensures in
+    let d = described (c .before .before .before .before .before .attribute-of .ensures) in
+    let z = size-is d in
+    let t = c .before .is-legal .ensures ∙ by-its-line _ d _ _ _ in
+    ⊎-elim
+    (λ w. one-marked _ _ _ _ (l .inv) f z b t (w .0 .taken) (omega arith))
+    (λ w. none-marked _ _ _ _ (l .inv) f z b t (w .0 .left) (omega arith))
+    (c .if1 .came)
+
+returns : tie.Need-returns Inv-loop μ-loop
+returns c = all-marked _ _ _ _ (c .before .loop .inv) (c .loop-test .left)
+
+pub bad-mask-spec : {M : Type 1} → statement M
+bad-mask-spec =
+    tie.close
+    (tie.spec
+    Inv-loop
+    μ-loop
+    loop-holds
+    first-named-requires
+    attribute-of-requires
+    add-to
+    bit-of-requires
+    sub-is-legal
+    part-is-legal-start
+    part-is-legal-end
+    is-legal-requires
+    add-bad
+    sub-left
+    loop-less
+    loop-again
+    returns)

@@ -1,0 +1,76 @@
+use borrow.Author.Needs.{needs}
+use Rattle.rules.specs.Catalogue.{Class}
+use Rattle.class_tables.specs.Built.{cat-of, class-for}
+use Rattle.attribute_check.specs.Judges.{fixed-at, legal-by}
+use Rattle.attribute_check.proofs.Verdicts.{with-two-bytes, found-fine, found-bad, found-asking}
+use Rattle.attribute_check.proofs.is_legal.Statement.{statement}
+use Rattle.attribute_check.proofs.is_legal.Tie as tie
+use Rattle.attribute_check.proofs.is_legal.Reads as reads
+use Rattle.attribute_check.proofs.is_legal.Lts as lts
+use Rattle.class_tables.proofs.attributes.attribute_of.Reads as attribute-of-reads
+use Rattle.class_tables.proofs.judge.judge.Reads as judge-reads
+use Rattle.table.proofs.instances.is_there.Reads as is-there-reads
+use Rattle.attribute_check.proofs.condition_of.Reads as condition-of-reads
+use Rattle.attribute_check.proofs.value_in.Reads as value-in-reads
+
+condition-of-requires : tie.Need-condition-of-requires
+condition-of-requires c κs = let e = c .before .before .before in (e .pre .1, e .pre .3)
+
+value-in-requires : tie.Need-value-in-requires
+value-in-requires c κs = search needs
+
+judge-requires : tie.Need-judge-requires
+judge-requires c κs = search needs
+
+enum-told : tie.Need-enum-told
+enum-told c = search needs
+
+enum-told-2 : tie.Need-enum-told-2
+enum-told-2 c = search needs
+
+enum-known-verdict : tie.Need-enum-known-verdict
+enum-known-verdict c = search needs
+
+is-there-requires : tie.Need-is-there-requires
+is-there-requires c κs = search needs
+
+returns : tie.Need-returns
+unfolding legal-by
+returns c =
+    let e = c .before .before .before .before .before .before .before .before in
+    let k : Class = class-for (e .args .product) (e .args .class) in
+    found-fine k (e .args .v .now) (fixed-at k (e .args .own .now) (e .args .at)) (e .pre .1) (c .before .before .judge .ensures)
+    (e .pre .2) (c .before .before .before .value-in .ensures) (c .before .before .before .before .condition-of .ensures) _ (c .enum-told .given .1)
+
+returns-2 : tie.Need-returns-2
+unfolding legal-by
+returns-2 c =
+    let e = c .before .before .before .before .before .before .before .before in
+    let k : Class = class-for (e .args .product) (e .args .class) in
+    found-bad k (e .args .v .now) (fixed-at k (e .args .own .now) (e .args .at)) (e .pre .1) (c .before .before .judge .ensures)
+    (e .pre .2) (c .before .before .before .value-in .ensures) (c .before .before .before .before .condition-of .ensures) _ (c .enum-told2 .given .1)
+
+returns-3 : tie.Need-returns-3
+unfolding legal-by
+returns-3 c =
+    let judged = c .before .before .before .before in
+    let e = judged .before .before .before .before .before .before in
+    let k : Class = class-for (e .args .product) (e .args .class) in
+    found-asking k (e .args .v .now) (fixed-at k (e .args .own .now) (e .args .at)) (e .pre .1) (judged .judge .ensures)
+    (e .pre .2) (judged .before .value-in .ensures) (judged .before .before .condition-of .ensures) _
+    (c .before .before .verdict .given .1) (with-two-bytes (cat-of (e .args .product)) (e .args .live .now) _ _ (c .is-there .ensures) (search needs))
+
+pub is-legal-spec : {M : Type 1} → statement M
+is-legal-spec =
+    tie.close
+    (tie.spec
+    condition-of-requires
+    value-in-requires
+    judge-requires
+    enum-told
+    enum-told-2
+    enum-known-verdict
+    is-there-requires
+    returns
+    returns-2
+    returns-3)

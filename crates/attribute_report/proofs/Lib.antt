@@ -1,0 +1,3 @@
+pub mod Drops
+pub mod Notified
+pub mod Reported

@@ -1,0 +1,91 @@
+-- A turn of the loops that lay one attribute after another.
+use Prim.Native.Nat.{ℕ, _+_, _-_, _≤_, _^_}
+use native.Mathlib.Omega.{arith}
+use mathlib.Core.Path.{_≡_, refl, _∙_, ap}
+use mathlib.Core.Bool.{true}
+use mathlib.Core.List.{List}
+use lib.ListN.{length, take, drop, length-take}
+use lib.Seq.{drop-drop}
+use Rattle.rules.specs.Maps.{among}
+use Rattle.rules.specs.Bytes.{laid}
+use Rattle.rules.specs.Masks.{named}
+use Rattle.rules.specs.Catalogue.{Class, size-of, stored-numbers}
+use Rattle.rules.specs.Commands.{cut}
+use Rattle.store.specs.Layout.{contents-width}
+use Rattle.bits.specs.Firsts.{First}
+use Rattle.bits.proofs.MaskWalk.{none-left, and-the-others, Walked, nothing-walked, next-passes, next-within, one-walked}
+use Rattle.octets.proofs.Laid.{length-laid}
+use Rattle.class_tables.specs.declared.Attribute.{Attribute}
+use Rattle.class_tables.specs.Built.{class-for}
+use Rattle.class_tables.specs.Describes.{offset-of, DescribedIn}
+use Rattle.class_tables.proofs.Offsets.{offset-fits}
+use Rattle.class_tables.proofs.Views.{size-is}
+use Rattle.attribute_write.specs.Lays.{laid-values, Laying}
+use Rattle.class_tables.specs.declared.Product.{Product}
+use Rattle.class_tables.proofs.ClassLaws.{stored-there}
+
+-- ---- a stored attribute, and its line
+
+module _ (pr : Product) (c n : ℕ) (s : among n (stored-numbers (class-for pr c)) ≡ true) where
+  pub placed-at : {a : Attribute} → DescribedIn (class-for pr c) n a → a .at ≡ offset-of (class-for pr c) n
+  placed-at d = let z = stored-there pr c n s in d .placed (z .1) (z .0)
+
+  -- it lies within its instance's contents
+  pub lies-within : {a : Attribute} → DescribedIn (class-for pr c) n a → a .at + a .size ≤ contents-width (class-for pr c)
+  lies-within {a} d =
+      let z : offset-of (class-for pr c) n + size-of (class-for pr c) n ≤ contents-width (class-for pr c) = offset-fits (class-for pr c) n s in
+      let e : a .at ≡ offset-of (class-for pr c) n = placed-at d in
+      let g : a .size ≡ size-of (class-for pr c) n = size-is d in
+      omega arith
+
+-- ---- values cut off one after another
+
+-- what is laid of the rest is what is laid of all
+pub record Values (k : Class) (at m : ℕ) (v b₀ b : List ℕ) (left from : ℕ) : Type 0 where
+  pub walked : Walked (size-of k) m left from
+  pub so-far : laid-values k at (cut (size-of k) (named left) (drop from v)) b ≡ laid-values k at (cut (size-of k) (named m) v) b₀
+  pub may : Laying k at (named m) v b₀
+  pub long : length b ≡ length b₀
+
+pub no-values : (k : Class) (at m : ℕ) (v b : List ℕ) → Laying k at (named m) v b → Values k at m v b b m 0
+no-values k at m v b h = record { walked = nothing-walked (size-of k) m; so-far = refl; may = h; long = refl }
+
+pub all-values : (k : Class) {at m : ℕ} {v b₀ b : List ℕ} {left from : ℕ} → Values k at m v b₀ b left from → left ≡ 0
+    → b ≡ laid-values k at (cut (size-of k) (named m) v) b₀
+unfolding cut laid-values
+all-values k s e = rw (none-left e) at (s .so-far)
+
+module _ (pr : Product) (c : ℕ) {at m : ℕ} {v b₀ b : List ℕ} {left from n : ℕ} {a : Attribute}
+    (s : Values (class-for pr c) at m v b₀ b left from) (f : First left n) (d : DescribedIn (class-for pr c) n a) where
+  abbrev k : Class
+  k = class-for pr c
+
+  next-stored : among n (stored-numbers k) ≡ true
+  next-stored = next-passes (s .walked) f (λ i. among i (stored-numbers k)) (s .may .are-stored)
+
+  -- the next value is there, and there is room for it
+  pub value-room : (from + a .size ≤ length v) × (at + a .at + a .size ≤ length b)
+  value-room =
+      let z = next-within (s .walked) f in
+      let e = size-is d in
+      let w = lies-within pr c n next-stored d in
+      let long = s .long in
+      let inside = s .may .inside in
+      let carried = s .may .carried in
+      (omega arith, omega arith)
+
+  pub one-value : {bit : ℕ} {b′ : List ℕ} → bit ≡ 2 ^ (16 - n) → b′ ≡ laid (at + a .at) (take (from + a .size - from) (drop from v)) b
+      → Values k at m v b₀ b′ (left - bit) (from + a .size)
+  unfolding cut laid-values
+  one-value {bit} {b′} e y =
+      let room = value-room in
+      let w : List ℕ = take (from + a .size - from) (drop from v) in
+      let cut-off : from + a .size - from ≡ size-of k n = let z = size-is d in omega arith in
+      let lw : length w ≤ a .size = simp length-take (omega arith) in
+      let q = length-laid (at + a .at) w b (omega arith) in
+      record {
+        walked = one-walked (s .walked) f e (size-is d);
+        so-far = rw (y, placed-at pr c n next-stored d, cut-off, size-is d, ← drop-drop (size-of k n) from v) (rw (and-the-others f e) at (s .so-far));
+        may = s .may;
+        long = ap length y ∙ q ∙ s .long;
+      }

@@ -1,0 +1,104 @@
+use native.Mathlib.Omega.{arith}
+use lib.ListN.{length-take, length-drop}
+use borrow.Author.Needs.{needs}
+use Rattle.bits.proofs.MaskWalk.{bit-in, fewer-left}
+use Rattle.class_tables.specs.Built.{class-for}
+use Rattle.attribute_write.proofs.Turns.{Values, no-values, value-room, one-value, all-values}
+use Rattle.attribute_write.proofs.lay_values.Statement.{statement}
+use Rattle.attribute_write.proofs.lay_values.Tie as tie
+use Rattle.class_tables.proofs.Tables.{described}
+
+abbrev Inv-loop : tie.InvT-loop
+Inv-loop b₀ at pr class asked v left₀ from₀ b left from = Values (class-for pr class) at asked v b₀ b left from
+
+abbrev μ-loop : tie.MeasureT-loop
+μ-loop b₀ at pr class asked v left₀ from₀ b left from = left
+
+loop-holds : tie.Need-loop-holds Inv-loop μ-loop
+loop-holds c = no-values _ _ _ _ _ (c .before .before .pre)
+
+first-named-requires : tie.Need-first-named-requires Inv-loop μ-loop
+first-named-requires c κs = search needs
+
+attribute-of-requires : tie.Need-attribute-of-requires Inv-loop μ-loop
+attribute-of-requires c κs = search needs
+
+add-end : tie.Need-add-end Inv-loop μ-loop
+add-end c =
+    let z = value-room _ _ (c .before .before .before .before .loop .inv) (c .before .before .first-named .ensures) (described (c .before .attribute-of .ensures)) in
+    omega arith
+
+add-copy-in : tie.Need-add-copy-in Inv-loop μ-loop
+add-copy-in c =
+    let at-attribute-of = c .before .before .before in
+    let at-first-named = at-attribute-of .before in
+    let at-loop = at-first-named .before .before in
+    let z = value-room _ _ (at-loop .loop .inv) (at-first-named .first-named .ensures) (described (at-attribute-of .attribute-of .ensures)) in
+    omega arith
+
+sub-copy-in : tie.Need-sub-copy-in Inv-loop μ-loop
+sub-copy-in c = search needs
+
+part-copy-in-start : tie.Need-part-copy-in-start Inv-loop μ-loop
+part-copy-in-start c = search needs
+
+part-copy-in-end : tie.Need-part-copy-in-end Inv-loop μ-loop
+part-copy-in-end c =
+    let at-attribute-of = c .before .before .before in
+    let at-first-named = at-attribute-of .before in
+    let at-loop = at-first-named .before .before in
+    let z = value-room _ _ (at-loop .loop .inv) (at-first-named .first-named .ensures) (described (at-attribute-of .attribute-of .ensures)) in
+    omega arith
+
+copy-in-requires : tie.Need-copy-in-requires Inv-loop μ-loop
+copy-in-requires c κs =
+    let at-attribute-of = c .before .before .before .before in
+    let at-first-named = at-attribute-of .before in
+    let at-loop = at-first-named .before .before in
+    let z = value-room _ _ (at-loop .loop .inv) (at-first-named .first-named .ensures) (described (at-attribute-of .attribute-of .ensures)) in
+    simp (length-take, length-drop) (omega arith)
+
+bit-of-requires : tie.Need-bit-of-requires Inv-loop μ-loop
+bit-of-requires c κs = search needs
+
+sub-left : tie.Need-sub-left Inv-loop μ-loop
+sub-left c = bit-in (c .before .before .before .before .before .before .before .before .before .first-named .ensures) (c .bit-of .ensures)
+
+loop-less : tie.Need-loop-less Inv-loop μ-loop
+loop-less c = fewer-left (c .before .before .before .before .before .before .before .before .before .first-named .ensures) (c .bit-of .ensures)
+
+loop-again : tie.Need-loop-again Inv-loop μ-loop
+loop-again c =
+    let at-copy-in = c .before .before .before in
+    let at-attribute-of = at-copy-in .before .before .before .before .before in
+    let at-first-named = at-attribute-of .before in
+    let at-loop = at-first-named .before .before in
+    one-value _ _ (at-loop .loop .inv) (at-first-named .first-named .ensures) (described (at-attribute-of .attribute-of .ensures)) (c .bit-of .ensures) (at-copy-in .copy-in .ensures)
+
+same-length : tie.Need-same-length Inv-loop μ-loop
+same-length c = c .before .loop .inv .long
+
+returns : tie.Need-returns Inv-loop μ-loop
+returns c = all-values _ (c .before .loop .inv) (c .loop-test .left)
+
+pub lay-values-spec : {M : Type 1} → statement M
+lay-values-spec =
+    tie.close
+    (tie.spec
+    Inv-loop
+    μ-loop
+    loop-holds
+    first-named-requires
+    attribute-of-requires
+    add-end
+    add-copy-in
+    sub-copy-in
+    part-copy-in-start
+    part-copy-in-end
+    copy-in-requires
+    bit-of-requires
+    sub-left
+    loop-less
+    loop-again
+    same-length
+    returns)

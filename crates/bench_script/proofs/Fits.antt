@@ -1,0 +1,101 @@
+-- The bytes that go with what a line asks for fit the buffer that they are laid into.
+use Prim.Native.Nat.{ℕ, _+_, _*_, _≤_, _<_}
+use native.Mathlib.Omega.{arith}
+use mathlib.Core.Path.{_≡_, refl}
+use mathlib.Core.Bool.{true, false}
+use mathlib.Core.List.{List, [], _∷_, _++_}
+use lib.ListN.{length, take, getD, length-append}
+use lib.Dec.{eqb, leb, ltb}
+use Rattle.rules.proofs.Laws.{cases, leb-lt}
+use Rattle.bench_script.specs.declared.Run.the-variants.{Blanks, Word, Code}
+use Rattle.bench_script.specs.declared.Why.the-variants as why
+use Rattle.bench_script.specs.declared.Call.{Call}
+use Rattle.bench_script.specs.declared.Call.the-variants as call
+use Rattle.bench_script.specs.declared.Chosen.{Chosen}
+use Rattle.bench_script.specs.declared.Chosen.the-variants as chosen
+use Rattle.bench_script.specs.declared.Three.{Three}
+use Rattle.bench_script.specs.declared.Three.the-variants as three
+use Rattle.bench_script.specs.declared.Hex.{Hex}
+use Rattle.bench_script.specs.declared.Hex.the-variants as hex
+use Rattle.bench_script.specs.declared.Asked.{Asked}
+use Rattle.bench_script.specs.declared.Asked.the-variants as asked
+use Rattle.bench_script.specs.Texts.{spelt}
+use Rattle.bench_script.specs.Runs.{digit-value, run-end, word-at}
+use Rattle.bench_script.specs.Numbers.{three-numbers}
+use Rattle.bench_script.specs.HexBytes.{pairs, hex-from}
+use Rattle.bench_script.specs.Lines.{call-of, choice, if-last, by-choice, power, on-or-off, alarm-of, alarm, with-bytes, report-of, report, message, read-call, read-from}
+use Rattle.bench_script.specs.Lines.{read, bytes-of}
+
+-- ---- bytes in hex
+
+abbrev count-of : Hex → ℕ
+count-of (hex.Bytes n) = n
+count-of (hex.Wrong place w) = 0
+
+pairs-fit : (room : ℕ) (done : List ℕ) (l : List (ℕ × ℕ)) → length done ≤ room → count-of (pairs room done l .0) ≤ room
+unfolding pairs
+pairs-fit room done [] h = h
+pairs-fit room done (m ∷ []) h = omega arith
+pairs-fit room done (m ∷ n ∷ l) h =
+    let v : ℕ = digit-value (m .1) * 16 + digit-value (n .1) in
+    cases (eqb (digit-value (m .1)) 16) (λ e. rw e (omega arith))
+    (λ e. cases (eqb (digit-value (n .1)) 16) (λ f. rw (e, f) (omega arith))
+    (λ f. cases (leb room (length done)) (λ g. rw (e, f, g) (omega arith))
+    (λ g. rw (e, f, g) (pairs-fit room (done ++ (v ∷ [])) l
+    (let z : length done < room = leb-lt room (length done) g in rw (length-append done (v ∷ [])) (omega arith))))))
+
+module _ (room : ℕ) (f : ℕ → Asked) (counts : (n : ℕ) → bytes-of (f n) ≡ n) where
+  hex-fits : (h : Hex) → count-of h ≤ room → bytes-of (with-bytes f h) ≤ room
+  hex-fits (hex.Bytes n) h = rw (counts n) h
+  hex-fits (hex.Wrong place w) h = omega arith
+
+-- ---- calls without bytes
+
+if-last-none : (a : Asked) (text : List ℕ) (at : ℕ) → bytes-of a ≡ 0 → bytes-of (if-last a text at) ≡ 0
+if-last-none a text at e = cases (ltb (run-end Blanks text at) (length text)) (λ t. rw t) (λ t. rw t e)
+
+choice-none : (a b : Asked) (text : List ℕ) (c : Chosen) → bytes-of a ≡ 0 → bytes-of b ≡ 0 → bytes-of (by-choice a b text c) ≡ 0
+choice-none a b text (chosen.First next) e f = if-last-none a text next e
+choice-none a b text (chosen.Second next) e f = if-last-none b text next f
+choice-none a b text (chosen.Wrong place w) e f = refl
+
+power-none : (text : List ℕ) (at : ℕ) → bytes-of (power text at) ≡ 0
+unfolding power
+power-none text at = choice-none (asked.Power 1) (asked.Power 2) text (choice (spelt "small") (spelt "large") why.NotAProduct text at) refl refl
+
+alarm-none : (text : List ℕ) (t : Three) → bytes-of (alarm-of text t) ≡ 0
+unfolding on-or-off
+alarm-none text (three.Are class number third next) =
+    choice-none (asked.Alarm class number third true) (asked.Alarm class number third false) text (choice (spelt "on") (spelt "off") why.NotOnOrOff text next) refl refl
+alarm-none text (three.Wrong place w) = refl
+
+-- ---- lines
+
+module _ (room : ℕ) (text : List ℕ) where
+  report-fits : (t : Three) → bytes-of (report-of room text t .0) ≤ room
+  report-fits (three.Are class number third next) =
+      hex-fits room (asked.Report class number third) (λ n. refl) (hex-from room text next .0) (pairs-fit room [] _ (omega arith))
+  report-fits (three.Wrong place w) = omega arith
+
+  message-fits : (from : ℕ) → bytes-of (message room text from .0) ≤ room
+  unfolding message
+  message-fits from = cases (eqb (digit-value (getD text from 0)) 16) (λ e. rw e (omega arith))
+      (λ e. rw e (hex-fits room asked.Message (λ n. refl) (hex-from room text from .0) (pairs-fit room [] _ (omega arith))))
+
+  call-fits : (from to : ℕ) (k : Call) → bytes-of (read-call room text from to k .0) ≤ room
+  unfolding read-call report alarm
+  call-fits from to call.Power = rw (power-none text to) (omega arith)
+  call-fits from to call.Report = report-fits (three-numbers text to)
+  call-fits from to call.Alarm = rw (alarm-none text (three-numbers text to)) (omega arith)
+  call-fits from to call.Upload = rw (if-last-none asked.Upload text to refl) (omega arith)
+  call-fits from to call.Alarms = rw (if-last-none asked.Alarms text to refl) (omega arith)
+  call-fits from to call.Other = message-fits from
+
+  text-fits : (from : ℕ) → bytes-of (read-from room text from .0) ≤ room
+  unfolding read-from
+  text-fits from = cases (ltb from (length text))
+      (λ t. rw t (call-fits from (run-end Word text from) (call-of (word-at text from))))
+      (λ t. rw t (omega arith))
+
+pub line-fits : (room : ℕ) (line : List ℕ) → bytes-of (read room line .0) ≤ room
+line-fits room line = text-fits room (take (run-end Code line 0) line) (run-end Blanks (take (run-end Code line 0) line) 0)

@@ -1,9 +1,0 @@
-pub mod Matches
-pub mod ClassLaws
-pub mod Tables
-pub mod SlotLaws
-pub mod Judging
-pub mod Views
-pub mod Offsets
-pub mod MaskLaws
-pub mod ProductLaws

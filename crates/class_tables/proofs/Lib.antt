@@ -1,0 +1,10 @@
+pub mod Matches
+pub mod EveryProduct
+pub mod ClassLaws
+pub mod Facts
+pub mod Tables
+pub mod SlotLaws
+pub mod Judging
+pub mod Views
+pub mod Offsets
+pub mod MaskLaws

@@ -1,0 +1,68 @@
+// The attributes of each class as masks: attribute 1 is the top bit of sixteen.
+use super::Product;
+ghost use mathlib.Core.Path.{_≡_};
+ghost use Rattle.rules.specs.Maps.{keys};
+ghost use Rattle.rules.specs.Masks.{mask};
+ghost use Rattle.rules.specs.Catalogue.{stored-numbers, carried-numbers};
+ghost use Rattle.class_tables.specs.Built.{class-for, by-product};
+ghost use Rattle.class_tables.specs.Masks.{writable-numbers};
+
+// One of two masks, by product.
+fn by(product: Product, small: u16, large: u16) -> u16
+    ensures { λ r. ⌜ r ≡ by-product product small large ⌝ }
+{
+    match product {
+        Product::Small => small,
+        Product::Large => large,
+    }
+}
+
+pub fn supported_mask(product: Product, class: u16) -> u16
+    ensures { λ r. ⌜ r ≡ mask (keys (class-for product class .attributes)) ⌝ }
+{
+    match class {
+        2 => 0x8000,
+        11 => by(product, 0xFC00, 0xFFF8),
+        45 => 0xFE00,
+        46 => by(product, 0xFC00, 0xFF00),
+        47 => by(product, 0xFF00, 0xFF80),
+        _ => 0,
+    }
+}
+
+// Those that a Set may write.
+pub fn writable_mask(product: Product, class: u16) -> u16
+    ensures { λ r. ⌜ r ≡ mask (writable-numbers (class-for product class)) ⌝ }
+{
+    match class {
+        2 => 0x8000,
+        11 => by(product, 0xB800, 0xB9F8),
+        45 => 0xFE00,
+        47 => by(product, 0x0F00, 0x0F80),
+        _ => 0,
+    }
+}
+
+// Those that a Create carries.
+pub fn carried_mask(product: Product, class: u16) -> u16
+    ensures { λ r. ⌜ r ≡ mask (carried-numbers (class-for product class)) ⌝ }
+{
+    match class {
+        45 => 0xFE00,
+        47 => by(product, 0xFF00, 0xFF80),
+        _ => 0,
+    }
+}
+
+pub fn stored_mask(product: Product, class: u16) -> u16
+    ensures { λ r. ⌜ r ≡ mask (stored-numbers (class-for product class)) ⌝ }
+{
+    match class {
+        2 => 0x8000,
+        11 => by(product, 0xFC00, 0xFFF8),
+        45 => 0xFE00,
+        46 => by(product, 0xB400, 0xB700),
+        47 => by(product, 0xFF00, 0xFF80),
+        _ => 0,
+    }
+}

@@ -1,0 +1,4 @@
+pub mod ContentsTested
+pub mod Unis
+pub mod Entries
+pub mod AlarmBytes

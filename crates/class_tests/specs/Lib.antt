@@ -1,0 +1,2 @@
+pub mod ContentTests
+pub mod Tests

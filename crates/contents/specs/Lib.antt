@@ -1,2 +1,0 @@
-pub mod ClassTests
-pub mod Tests

@@ -1,0 +1,179 @@
+use Rattle.create_command.proofs.Steps.{reply-long}
+use Rattle.create_command.proofs.Creates.{refused-bad, refused-full, accepted}
+use Rattle.sound_store.proofs.Held.{live-shaped}
+use Rattle.rules.proofs.ByteLaws.{known-bytes}
+use Rattle.store.proofs.TablesBack.{place-has-its-length}
+use lib.ListN.{length, set}
+use native.Mathlib.Omega.{arith}
+use mathlib.Core.Path.{_≡_, _∙_, ap}
+use borrow.Author.Needs.{needs}
+use Rattle.create_command.proofs.create_absent.Statement.{statement}
+use Rattle.create_command.proofs.create_absent.Tie as tie
+use Rattle.create_command.proofs.create_absent.Reads as reads
+use Rattle.create_command.proofs.create_absent.Lts as lts
+use Rattle.create_command.proofs.bad_in_create.Reads as bad-in-create-reads
+use Rattle.create_command.proofs.new_place.Reads as new-place-reads
+use Rattle.create_command.proofs.put_in.Reads as put-in-reads
+use Rattle.octets.proofs.key_of.Reads as key-of-reads
+use Rattle.octets.proofs.put_number.Reads as put-number-reads
+use Rattle.table.proofs.in_use.Reads as in-use-reads
+use Rattle.rules.specs.Messages.{bad-parameter}
+
+slice-aggregate-new-place : tie.Need-slice-aggregate-new-place
+slice-aggregate-new-place c = search needs
+
+new-place-requires : tie.Need-new-place-requires
+new-place-requires c κs = search needs
+
+sub-bad-in-create : tie.Need-sub-bad-in-create
+sub-bad-in-create c = search needs
+
+part-bad-in-create-start : tie.Need-part-bad-in-create-start
+part-bad-in-create-start c = search needs
+
+part-bad-in-create-end : tie.Need-part-bad-in-create-end
+part-bad-in-create-end c = search needs
+
+slice-aggregate-bad-in-create : tie.Need-slice-aggregate-bad-in-create
+slice-aggregate-bad-in-create c = search needs
+
+bad-in-create-requires : tie.Need-bad-in-create-requires
+bad-in-create-requires c κs =
+    let f = c .before .before .before .before .before .before .before .before .before in
+    (live-shaped (f .args .product) (f .args .store .now) (f .pre .0), f .pre .1, f .pre .2, ap length (c .before .before .before .before .new-place .ensures) ∙ place-has-its-length _)
+
+slice-write-out : tie.Need-slice-write-out
+slice-write-out c =
+    let f = c .before .before .before .before .before .before .before .before .before .before .before in
+    let n : length (f .args .out .now) ≡ 32 = ap length (f .pre .3) in
+    search needs
+
+put-number-requires : tie.Need-put-number-requires
+put-number-requires c κs =
+    let f = c .before .before .before .before .before .before .before .before .before .before .before .before in
+    let n : length (set (f .args .out .now) 0 bad-parameter) ≡ 32 = ap (λ o. length (set o 0 bad-parameter)) (f .pre .3) in
+    omega arith
+
+same-length : tie.Need-same-length
+same-length c = search needs
+
+same-length-2 : tie.Need-same-length-2
+same-length-2 c =
+    let j = c .before .before .before .before .before in
+    let f = j .before .before .before .before .before .before .before .before .before .before in
+    let n = reply-long (f .args .out .now) (j .bad-in-create .result) (f .pre .3) (c .before .before .put-number .ensures) in
+    search needs
+
+returns : tie.Need-returns
+returns c =
+    let j = c .before .before .before .before .before in
+    let p = j .before .before .before .before .before in
+    let f = p .before .before .before .before .before in
+    let a = f .args in
+    rw (c .before .before .put-number .ensures)
+    (refused-bad (a .product) (a .store .now) (f .pre .0) (a .class) (a .number) (f .fits .number .fits) (f .pre .1) (a .v .now) (f .pre .2) (f .pre .4)
+    (j .bad-in-create .result) (p .new-place .ensures) (j .bad-in-create .ensures) (c .before .before .before .before .if1 .taken) (a .out .now) (f .pre .3))
+
+sub-in-use : tie.Need-sub-in-use
+sub-in-use c = search needs
+
+part-in-use-start : tie.Need-part-in-use-start
+part-in-use-start c = search needs
+
+part-in-use-end : tie.Need-part-in-use-end
+part-in-use-end c = search needs
+
+in-use-requires : tie.Need-in-use-requires
+in-use-requires c κs = search needs
+
+slice-write-out-2 : tie.Need-slice-write-out-2
+slice-write-out-2 c =
+    let f = c .before .before .before .before .before .before .before .before .before .before .before .before .before .before .before in
+    let n : length (f .args .out .now) ≡ 32 = ap length (f .pre .3) in
+    search needs
+
+same-length-3 : tie.Need-same-length-3
+same-length-3 c = search needs
+
+same-length-4 : tie.Need-same-length-4
+same-length-4 c = search needs
+
+returns-2 : tie.Need-returns-2
+returns-2 c =
+    let j = c .before .before .before .before .before in
+    let p = j .before .before .before .before .before in
+    let f = p .before .before .before .before .before in
+    let a = f .args in
+    let n = c .before .in-use .ensures in
+    let m = c .if2 .taken in
+    refused-full (a .product) (a .store .now) (f .pre .0) (a .class) (a .number) (f .fits .number .fits) (f .pre .1) (a .v .now) (f .pre .2) (f .pre .4)
+    (j .bad-in-create .result) (p .new-place .ensures) (j .bad-in-create .ensures) (c .before .before .before .before .if1 .left) (omega arith) (a .out .now) (f .pre .3)
+
+sub-put-in : tie.Need-sub-put-in
+sub-put-in c = search needs
+
+part-put-in-start : tie.Need-part-put-in-start
+part-put-in-start c = search needs
+
+part-put-in-end : tie.Need-part-put-in-end
+part-put-in-end c = search needs
+
+key-of-requires : tie.Need-key-of-requires
+key-of-requires c κs = search needs
+
+slice-aggregate-put-in : tie.Need-slice-aggregate-put-in
+slice-aggregate-put-in c = search needs
+
+put-in-requires : tie.Need-put-in-requires
+put-in-requires c κs = search needs
+
+same-length-5 : tie.Need-same-length-5
+same-length-5 c = search needs
+
+returns-3 : tie.Need-returns-3
+returns-3 c =
+    let fine = c .before .before .before .before .before .before .before .before .before .before in
+    let j = fine .before in
+    let p = j .before .before .before .before .before in
+    let f = p .before .before .before .before .before in
+    let a = f .args in
+    let room = c .before .before .before .before .before .before in
+    let n = room .before .in-use .ensures in
+    let m = room .if2 .left in
+    let small = known-bytes (a .v .now) (λ i. p .before .before .before .shared-slice-known .given i .fits) in
+    accepted (a .product) (a .store .now) (f .pre .0) (a .class) (a .number) (f .fits .number .fits) (f .pre .1) (a .v .now) (f .pre .2) (f .pre .4)
+    (j .bad-in-create .result) (p .new-place .ensures) (j .bad-in-create .ensures) (fine .if1 .left) (omega arith) small
+    (c .before .before .before .before .key-of .ensures) (c .before .before .put-in .ensures) (a .out .now) (f .pre .3)
+
+pub create-absent-spec : {M : Type 1} → statement M
+create-absent-spec =
+    tie.close
+    (tie.spec
+    slice-aggregate-new-place
+    new-place-requires
+    sub-bad-in-create
+    part-bad-in-create-start
+    part-bad-in-create-end
+    slice-aggregate-bad-in-create
+    bad-in-create-requires
+    slice-write-out
+    put-number-requires
+    same-length
+    same-length-2
+    returns
+    sub-in-use
+    part-in-use-start
+    part-in-use-end
+    in-use-requires
+    slice-write-out-2
+    same-length-3
+    same-length-4
+    returns-2
+    sub-put-in
+    part-put-in-start
+    part-put-in-end
+    key-of-requires
+    slice-aggregate-put-in
+    put-in-requires
+    same-length-5
+    returns-3)

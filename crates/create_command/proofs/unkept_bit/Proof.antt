@@ -1,0 +1,93 @@
+use Rattle.create_command.proofs.Bad.{nothing-unkept, is-number, unkept-room, was-zero, was-not-zero}
+use native.Mathlib.Omega.{arith}
+use borrow.Author.Needs.{needs}
+use Rattle.create_command.proofs.unkept_bit.Statement.{statement}
+use Rattle.create_command.proofs.unkept_bit.Tie as tie
+use Rattle.create_command.proofs.unkept_bit.Reads as reads
+use Rattle.create_command.proofs.unkept_bit.Lts as lts
+use Rattle.mask_tests.proofs.total_size.Reads as total-size-reads
+use Rattle.bits.proofs.bit_of.Reads as bit-of-reads
+use Rattle.class_tables.proofs.classes.unkept.Reads as unkept-reads
+use Rattle.class_tables.proofs.masks.carried_mask.Reads as carried-mask-reads
+use Rattle.octets.proofs.zeros.Reads as zeros-reads
+use Prim.Native.Nat.{_+_, _≤_}
+use lib.ListN.{length}
+
+unkept-requires : tie.Need-unkept-requires
+unkept-requires c κs = search needs
+
+returns : tie.Need-returns
+returns c =
+    let f = c .before .before .before .before in
+    nothing-unkept (f .args .product) (f .args .class) (f .args .v .now) (f .pre) (c .before .before .unkept .result) (c .before .before .unkept .ensures) (c .if1 .taken)
+
+carried-mask-requires : tie.Need-carried-mask-requires
+carried-mask-requires c κs = search needs
+
+total-size-requires : tie.Need-total-size-requires
+total-size-requires c κs = search needs
+
+-- it follows what is kept
+follows : (c : tie.After-total-size) → c .total-size .result + c .before .before .before .before .unkept .result .size ≤ length (c .before .before .before .before .before .before .args .v .now)
+follows c =
+    let u = c .before .before .before .before in
+    let f = u .before .before in
+    unkept-room (f .args .product) (f .args .class) (f .args .v .now) (f .pre) (u .unkept .result) (u .unkept .ensures) (c .before .before .if1 .left)
+    (c .before .carried-mask .ensures) (c .total-size .ensures)
+
+add-to : tie.Need-add-to
+add-to c =
+    let room = follows (c .before) in
+    let long = c .before .before .before .before .before .before .before .pre in
+    omega arith
+
+sub-zeros : tie.Need-sub-zeros
+sub-zeros c = search needs
+
+part-zeros-start : tie.Need-part-zeros-start
+part-zeros-start c = search needs
+
+part-zeros-end : tie.Need-part-zeros-end
+part-zeros-end c = let room = follows (c .before) in search needs
+
+zeros-requires : tie.Need-zeros-requires
+zeros-requires c κs = search needs
+
+returns-2 : tie.Need-returns-2
+returns-2 c =
+    let t = c .before .before .before .before in
+    let u = t .before .before .before .before in
+    let f = u .before .before in
+    was-zero (f .args .product) (f .args .class) (f .args .v .now) (f .pre) (u .unkept .result) (u .unkept .ensures) (t .before .before .if1 .left)
+    (t .before .carried-mask .ensures) (t .total-size .ensures) (c .before .zeros .ensures) (c .if2 .taken)
+
+bit-of-requires : tie.Need-bit-of-requires
+bit-of-requires c κs =
+    let u = c .before .before .before .before .before .before .before .before in
+    let f = u .before .before in
+    is-number (f .args .product) (f .args .class) (f .args .v .now) (f .pre) (u .unkept .result) (u .unkept .ensures) (c .before .before .before .before .before .before .if1 .left)
+
+returns-3 : tie.Need-returns-3
+returns-3 c =
+    let t = c .before .before .before .before .before in
+    let u = t .before .before .before .before in
+    let f = u .before .before in
+    was-not-zero (f .args .product) (f .args .class) (f .args .v .now) (f .pre) (u .unkept .result) (u .unkept .ensures) (t .before .before .if1 .left)
+    (t .before .carried-mask .ensures) (t .total-size .ensures) (c .before .before .zeros .ensures) (c .before .if2 .left) (c .bit-of .ensures)
+
+pub unkept-bit-spec : {M : Type 1} → statement M
+unkept-bit-spec =
+    tie.close
+    (tie.spec
+    unkept-requires
+    returns
+    carried-mask-requires
+    total-size-requires
+    add-to
+    sub-zeros
+    part-zeros-start
+    part-zeros-end
+    zeros-requires
+    returns-2
+    bit-of-requires
+    returns-3)

@@ -1,0 +1,3 @@
+pub mod Refused
+pub mod Answers
+pub mod Contents

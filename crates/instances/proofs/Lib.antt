@@ -1,3 +1,0 @@
-pub mod Located
-pub mod SpotRoom
-pub mod HeldAt

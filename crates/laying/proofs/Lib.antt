@@ -1,5 +1,0 @@
-pub mod Turns
-pub mod Puts
-pub mod FirstTurns
-pub mod Overwritten
-pub mod TableWritten

@@ -1,0 +1,17 @@
+pub mod Outcomes
+pub mod Contents
+pub mod NewContents
+pub mod ResetContents
+pub mod Tables
+pub mod Frozen
+pub mod Holds
+pub mod Counter
+pub mod Refusals
+pub mod Carried
+pub mod Written
+pub mod AlarmsKept
+pub mod WalksKept
+pub mod ReplyBytes
+pub mod LegalStates
+pub mod CommandsKept
+pub mod Kept

@@ -1,5 +1,0 @@
-pub mod Rooms
-pub mod Drops
-pub mod Writes
-pub mod Notified
-pub mod Reported

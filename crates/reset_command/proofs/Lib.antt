@@ -1,0 +1,10 @@
+pub mod SlotClasses
+pub mod SlotTurns
+pub mod FirstContents
+pub mod SlotsBegun
+pub mod SlotsReset
+pub mod BlockReset
+pub mod BlockWritten
+pub mod FreshBlock
+pub mod FreshStore
+pub mod Answered

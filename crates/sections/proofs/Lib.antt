@@ -1,7 +1,0 @@
-pub mod Gathered
-pub mod Cutting
-pub mod ClassCuts
-pub mod EntryLaws
-pub mod ClassTotals
-pub mod SectionsHeld
-pub mod SectionsShow

@@ -1,1 +1,0 @@
-// Which alarms stay when created instances go: see proofs/. This crate has no code of its own.

@@ -1,0 +1,58 @@
+use lib.Seq.{take-all}
+use Prim.Native.Nat.{_-_, _≤_}
+use mathlib.Core.Path.{_≡_}
+use lib.ListN.{length, take}
+use Rattle.text_buffer.specs.Said.{Says}
+use Rattle.text_buffer.proofs.Saying.{says-nothing, says-as, and-then}
+use Rattle.text_buffer.proofs.Hexes.{one-more}
+use borrow.Author.Needs.{needs}
+use Rattle.text_buffer.proofs.text.put.Statement.{statement}
+use Rattle.text_buffer.proofs.text.put.Tie as tie
+
+abbrev Inv-loop : tie.InvT-loop
+Inv-loop out₀ at text to₀ i₀ out to i = (i ≤ length text) × (length out ≡ length out₀) × Says out₀ at (take i text) to out
+
+abbrev μ-loop : tie.MeasureT-loop
+μ-loop out₀ at text to₀ i₀ out to i = length text - i
+
+loop-holds : tie.Need-loop-holds Inv-loop μ-loop
+loop-holds c = (search needs, search needs, says-nothing _ _)
+
+shared-slice-read-put-byte : tie.Need-shared-slice-read-put-byte Inv-loop μ-loop
+shared-slice-read-put-byte c = search needs
+
+put-byte-requires : tie.Need-put-byte-requires Inv-loop μ-loop
+put-byte-requires c κs = search needs
+
+add-i : tie.Need-add-i Inv-loop μ-loop
+add-i c = search needs
+
+loop-less : tie.Need-loop-less Inv-loop μ-loop
+loop-less c = search needs
+
+loop-again : tie.Need-loop-again Inv-loop μ-loop
+loop-again c =
+    let l = c .before .before .before .before .before .before in
+    (search needs, search needs, and-then (l .loop .inv .2) (c .before .before .put-byte .ensures) (one-more (l .before .before .before .args .text .now) (l .loop .i) (search needs)))
+
+same-length : tie.Need-same-length Inv-loop μ-loop
+same-length c = search needs
+
+returns : tie.Need-returns Inv-loop μ-loop
+returns c =
+    says-as (c .before .loop .inv .2) (take-all (c .before .loop .i) (c .before .before .before .before .args .text .now) (search needs))
+
+pub put-spec : {M : Type 1} → statement M
+put-spec =
+    tie.close
+    (tie.spec
+    Inv-loop
+    μ-loop
+    loop-holds
+    shared-slice-read-put-byte
+    put-byte-requires
+    add-i
+    loop-less
+    loop-again
+    same-length
+    returns)

@@ -1,0 +1,35 @@
+use Rattle.text_buffer.proofs.Saying.{says-as}
+use borrow.Author.Needs.{needs}
+use Rattle.text_buffer.proofs.text.put_decimal.Statement.{statement}
+use Rattle.text_buffer.proofs.text.put_decimal.Tie as tie
+
+decimal-requires : tie.Need-decimal-requires
+decimal-requires c κs = search needs
+
+array-share-prefix-digits : tie.Need-array-share-prefix-digits
+array-share-prefix-digits c = search needs
+
+slice-aggregate-put : tie.Need-slice-aggregate-put
+slice-aggregate-put c = search needs
+
+put-requires : tie.Need-put-requires
+put-requires c κs = search needs
+
+same-length : tie.Need-same-length
+same-length c = search needs
+
+returns : tie.Need-returns
+returns c =
+    let d = c .before .before .before .before .before .decimal in
+    record { count = d .result; fewest = d .ensures .1 .0; says = says-as (c .before .before .put .ensures) (d .ensures .1 .1) }
+
+pub put-decimal-spec : {M : Type 1} → statement M
+put-decimal-spec =
+    tie.close
+    (tie.spec
+    decimal-requires
+    array-share-prefix-digits
+    slice-aggregate-put
+    put-requires
+    same-length
+    returns)

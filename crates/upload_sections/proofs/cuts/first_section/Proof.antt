@@ -1,0 +1,93 @@
+use Prim.Native.Nat.{_-_}
+use native.Mathlib.Omega.{arith}
+use mathlib.Core.Path.{refl, sym, _∙_}
+use lib.Pow.{pow-pos}
+use borrow.Author.Needs.{needs}
+use Rattle.rules.specs.Catalogue.{size-of}
+use Rattle.class_tables.specs.Built.{class-for}
+use Rattle.class_tables.proofs.Views.{size-is}
+use Rattle.upload_sections.proofs.Cutting.{Cutting, nothing-cut, one-more, full, used-up, not-none}
+use Rattle.upload_sections.proofs.cuts.first_section.Statement.{statement}
+use Rattle.upload_sections.proofs.cuts.first_section.Tie as tie
+use Rattle.class_tables.proofs.Tables.{described}
+
+abbrev Inv-loop : tie.InvT-loop
+Inv-loop pr class remaining left₀ used₀ left used = Cutting (size-of (class-for pr class)) remaining left used
+
+abbrev μ-loop : tie.MeasureT-loop
+μ-loop pr class remaining left₀ used₀ left used = left
+
+loop-holds : tie.Need-loop-holds Inv-loop μ-loop
+loop-holds c = nothing-cut _ _
+
+how-many-requires : tie.Need-how-many-requires Inv-loop μ-loop
+how-many-requires c κs = search needs
+
+first-named-requires : tie.Need-first-named-requires Inv-loop μ-loop
+first-named-requires c κs = not-none _ (c .before .how-many .ensures) (c .if1 .taken)
+
+attribute-of-requires : tie.Need-attribute-of-requires Inv-loop μ-loop
+attribute-of-requires c κs = search needs
+
+add-used : tie.Need-add-used Inv-loop μ-loop
+add-used c =
+    let room = c .before .before .before .before .before .loop .inv .room in
+    let small = described (c .before .attribute-of .ensures) .small in
+    omega arith
+
+sub-result : tie.Need-sub-result Inv-loop μ-loop
+sub-result c = c .before .before .before .before .before .before .loop .inv .below
+
+returns : tie.Need-returns Inv-loop μ-loop
+returns c =
+    let l = c .before .before .before .before .before .before .loop in
+    let a = described (c .before .before .attribute-of .ensures) in
+    full _ (l .inv) (c .before .before .before .first-named .ensures) (size-is (a)) (c .if2 .taken) refl
+
+bit-of-requires : tie.Need-bit-of-requires Inv-loop μ-loop
+bit-of-requires c κs = search needs
+
+sub-left : tie.Need-sub-left Inv-loop μ-loop
+sub-left c =
+    let f = c .before .before .before .before .first-named .ensures .set-in in
+    let e = c .bit-of .ensures in
+    omega arith
+
+loop-less : tie.Need-loop-less Inv-loop μ-loop
+loop-less c =
+    let f = c .before .before .before .before .first-named .ensures .set-in in
+    let e = c .bit-of .ensures in
+    let p = pow-pos (16 - c .before .before .before .before .first-named .result) in
+    omega arith
+
+loop-again : tie.Need-loop-again Inv-loop μ-loop
+loop-again c =
+    let l = c .before .before .before .before .before .before .before .loop in
+    let a = described (c .before .before .before .attribute-of .ensures) in
+    one-more _ (l .inv) (c .before .before .before .before .first-named .ensures) (c .bit-of .ensures) (size-is (a)) (omega arith)
+
+sub-result-2 : tie.Need-sub-result-2 Inv-loop μ-loop
+sub-result-2 c = c .before .before .loop .inv .below
+
+returns-2 : tie.Need-returns-2 Inv-loop μ-loop
+returns-2 c = used-up _ (c .before .before .loop .inv) (sym (c .before .how-many .ensures) ∙ c .if1 .left) refl
+
+pub first-section-spec : {M : Type 1} → statement M
+first-section-spec =
+    tie.close
+    (tie.spec
+    Inv-loop
+    μ-loop
+    loop-holds
+    how-many-requires
+    first-named-requires
+    attribute-of-requires
+    add-used
+    sub-result
+    returns
+    bit-of-requires
+    sub-left
+    loop-less
+    loop-again
+    sub-result-2
+    returns-2)

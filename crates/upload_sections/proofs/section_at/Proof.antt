@@ -1,0 +1,86 @@
+use Prim.Native.Nat.{_-_, _≤_}
+use native.Mathlib.Omega.{arith}
+use mathlib.Core.Path.{_≡_, ap}
+use mathlib.Core.List.{List}
+use borrow.Author.Needs.{needs}
+use Rattle.rules.specs.Maps.{nth}
+use Rattle.rules.specs.Walks.{Section}
+use Rattle.class_tables.specs.Built.{cat-of}
+use Rattle.table.specs.Places.{keys-in}
+use Rattle.upload_sections.specs.Sections.{sections-in}
+use Rattle.upload_sections.proofs.ClassTotals.{sections-on, all-sections, in-this-class, in-a-later-class, in-no-class}
+use Rattle.upload_sections.proofs.section_at.Statement.{statement}
+use Rattle.upload_sections.proofs.section_at.Tie as tie
+
+-- the one that is so many on from the j-th class is the answer
+abbrev Inv-loop : tie.InvT-loop
+Inv-loop b pr n last left₀ j₀ left j = (j ≤ last) × (nth (sections-on pr b j) left ≡ nth (sections-in (cat-of pr) (keys-in b)) n)
+
+abbrev μ-loop : tie.MeasureT-loop
+μ-loop b pr n last left₀ j₀ left j = last - j
+
+class-count-requires : tie.Need-class-count-requires Inv-loop μ-loop
+class-count-requires c κs = search needs
+
+loop-holds : tie.Need-loop-holds Inv-loop μ-loop
+loop-holds c =
+    let a = c .before .before .args in
+    (omega arith, ap (λ (k : List Section). nth k (a .n)) (all-sections (a .product) (a .b .now)))
+
+class-at-requires : tie.Need-class-at-requires Inv-loop μ-loop
+class-at-requires c κs = search needs
+
+class-total-requires : tie.Need-class-total-requires Inv-loop μ-loop
+class-total-requires c κs = search needs
+
+class-section-requires : tie.Need-class-section-requires Inv-loop μ-loop
+class-section-requires c κs = search needs
+
+returns : tie.Need-returns Inv-loop μ-loop
+returns c =
+    let l = c .before .before .before .before .before in
+    let a = l .before .before .before .args in
+    let r = c .class-section .ensures in
+    record {
+      is = in-this-class (a .product) (a .b .now) (l .loop .j) (c .before .before .before .class-at .ensures) (c .before .before .class-total .ensures) (omega arith)
+          (l .loop .left) (l .loop .inv .1) (c .before .if1 .taken) (r .is);
+      carries = r .carries;
+    }
+
+add-j : tie.Need-add-j Inv-loop μ-loop
+add-j c = search needs
+
+loop-less : tie.Need-loop-less Inv-loop μ-loop
+loop-less c = omega arith
+
+loop-again : tie.Need-loop-again Inv-loop μ-loop
+loop-again c =
+    let l = c .before .before .before .before in
+    let a = l .before .before .before .args in (
+      omega arith,
+      in-a-later-class (a .product) (a .b .now) (l .loop .j) (c .before .before .class-at .ensures) (c .before .class-total .ensures) (omega arith)
+          (l .loop .left) (l .loop .inv .1) (omega arith),
+    )
+
+returns-2 : tie.Need-returns-2 Inv-loop μ-loop
+returns-2 c =
+    let l = c .before in
+    let a = l .before .before .before .args in
+    record { is = in-no-class (a .product) (a .b .now) (l .loop .j) (l .loop .left) (l .loop .inv .1) (omega arith); carries = tt }
+
+pub section-at-spec : {M : Type 1} → statement M
+section-at-spec =
+    tie.close
+    (tie.spec
+    Inv-loop
+    μ-loop
+    class-count-requires
+    loop-holds
+    class-at-requires
+    class-total-requires
+    class-section-requires
+    returns
+    add-j
+    loop-less
+    loop-again
+    returns-2)

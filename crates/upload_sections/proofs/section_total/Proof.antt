@@ -1,0 +1,75 @@
+use Prim.Native.Nat.{_+_, _*_, _-_, _≤_}
+use native.Mathlib.Omega.{arith}
+use mathlib.Core.Path.{_≡_, ap}
+use lib.ListN.{length}
+use borrow.Author.Needs.{needs}
+use Rattle.upload_sections.proofs.ClassTotals.{class-few, sections-on, all-sections, total-more, none-counted}
+use Rattle.upload_sections.proofs.section_total.Statement.{statement}
+use Rattle.upload_sections.proofs.section_total.Tie as tie
+use Rattle.class_tables.proofs.Facts.{few-classes}
+use Rattle.store.specs.Layout.{slot-count, place-count}
+
+-- those counted, and those of the classes from the j-th on, make the answer
+abbrev Inv-loop : tie.InvT-loop
+Inv-loop b pr n total₀ j₀ total j = (j ≤ n) × (total ≤ (slot-count + place-count) * 16 * j) × (total + length (sections-on pr b j) ≡ length (sections-on pr b 0))
+
+abbrev μ-loop : tie.MeasureT-loop
+μ-loop b pr n total₀ j₀ total j = n - j
+
+class-count-requires : tie.Need-class-count-requires Inv-loop μ-loop
+class-count-requires c κs = search needs
+
+loop-holds : tie.Need-loop-holds Inv-loop μ-loop
+loop-holds c = (omega arith, omega arith, omega arith)
+
+class-at-requires : tie.Need-class-at-requires Inv-loop μ-loop
+class-at-requires c κs = search needs
+
+class-total-requires : tie.Need-class-total-requires Inv-loop μ-loop
+class-total-requires c κs = search needs
+
+add-total : tie.Need-add-total Inv-loop μ-loop
+add-total c =
+    let l = c .before .before .before in
+    let a = l .before .before .before .args in
+    let classes = few-classes (a .product) in
+    let few = class-few (a .product) (c .before .class-at .result) (a .b .now) (l .before .before .before .pre) in
+    omega arith
+
+add-j : tie.Need-add-j Inv-loop μ-loop
+add-j c = search needs
+
+loop-less : tie.Need-loop-less Inv-loop μ-loop
+loop-less c = omega arith
+
+loop-again : tie.Need-loop-again Inv-loop μ-loop
+loop-again c =
+    let l = c .before .before .before in
+    let a = l .before .before .before .args in
+    let few = class-few (a .product) (c .before .class-at .result) (a .b .now) (l .before .before .before .pre) in
+    let more = total-more (a .product) (a .b .now) (l .loop .j) (c .before .class-at .ensures) (c .class-total .ensures) (omega arith) in
+    (omega arith, omega arith, omega arith)
+
+returns : tie.Need-returns Inv-loop μ-loop
+returns c =
+    let l = c .before in
+    let a = l .before .before .before .args in
+    let none = none-counted (a .product) (a .b .now) (l .loop .j) (omega arith) in
+    let all = ap length (all-sections (a .product) (a .b .now)) in
+    omega arith
+
+pub section-total-spec : {M : Type 1} → statement M
+section-total-spec =
+    tie.close
+    (tie.spec
+    Inv-loop
+    μ-loop
+    class-count-requires
+    loop-holds
+    class-at-requires
+    class-total-requires
+    add-total
+    add-j
+    loop-less
+    loop-again
+    returns)

@@ -1,0 +1,30 @@
+use Rattle.upload_walk.proofs.Showing.{head-written}
+use borrow.Author.Needs.{needs}
+use Rattle.upload_walk.proofs.put_head.Statement.{statement}
+use Rattle.upload_walk.proofs.put_head.Tie as tie
+
+put-number-requires : tie.Need-put-number-requires
+put-number-requires c κs = search needs
+
+put-number-requires-2 : tie.Need-put-number-requires-2
+put-number-requires-2 c κs = search needs
+
+put-number-requires-3 : tie.Need-put-number-requires-3
+put-number-requires-3 c κs = search needs
+
+same-length : tie.Need-same-length
+same-length c = search needs
+
+returns : tie.Need-returns
+returns c =
+    let third = c .before .before in
+    let second = third .before .before .before .before in
+    let first = second .before .before .before .before in
+    let s = first .before .before .before in
+    let a = s .args in
+    head-written (a .class) (a .number) (a .mask) (a .out .now) _ _ _ (s .pre) (first .put-number .ensures) (second .put-number2 .ensures) (third .put-number3 .ensures)
+
+pub put-head-spec : {M : Type 1} → statement M
+put-head-spec =
+    tie.close
+    (tie.spec put-number-requires put-number-requires-2 put-number-requires-3 same-length returns)

@@ -1,3 +1,0 @@
-pub mod Freezing
-pub mod Showing
-pub mod Uploads
