@@ -109,7 +109,9 @@ pub fn report_alarm(
     reply: &mut [u8],
 ) -> Outcome
     requires { ⌜ Sound product (now store) × (48 ≤ length (now reply)) ⌝ }
-    ensures { λ r. ⌜ left-by r (now (store .exit)) (now (reply .exit)) ≡ leaves product (state-in product (now (store .entry))) (now (store .entry)) (now (reply .entry)) (report-alarm (cat-of product) (state-in product (now (store .entry))) class number alarm on) ⌝ }
+    ensures { λ r. ⌜ left-by r (now (store .exit)) (now (reply .exit))
+        ≡ leaves product (state-in product (now (store .entry))) (now (store .entry)) (now (reply .entry))
+        (report-alarm (cat-of product) (state-in product (now (store .entry))) class number alarm on) ⌝ }
 {
     let slot = slots::slot_of(product, class, number);
     match slot {

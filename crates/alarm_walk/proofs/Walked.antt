@@ -138,7 +138,8 @@ module _ (pr : Product) (b : List ℕ) (h : Sound pr b) where
             let p : j ≡ place-on (two v 0) (slot-bytes-at pr b h (walk-at + 1)) = rw (lent (walk-at + 1) k, ek, en) at ej in
             rw (in-walk, none-read (two v 0) (slot-keys pr b h) (slot-bytes-at pr b h (walk-at + 1)) s (slot-bytes-are-bytes pr b h (walk-at + 1) (omega arith)) (omega arith)) blank
 
-        pub next-shown : (o : List ℕ) (k n j d m : ℕ) → k ≡ length (slot-keys pr b h) → n ≡ two v 0 → j ≡ place-on n (take ((walk-at + 1) + k - (walk-at + 1)) (drop (walk-at + 1) b)) → j < k
+        pub next-shown : (o : List ℕ) (k n j d m : ℕ) → k ≡ length (slot-keys pr b h) → n ≡ two v 0
+            → j ≡ place-on n (take ((walk-at + 1) + k - (walk-at + 1)) (drop (walk-at + 1) b)) → j < k
             → key d m ≡ getD (slot-keys pr b h) j 0 → m < 65536 → o ≡ fill 32 (bytes 2 d ++ bytes 2 m ++ byte b ((walk-at + 1) + j) ∷ [])
             → o ≡ fill 32 (alarms-next (now pr b h) c i v .1)
         unfolding alarms-contents

@@ -97,10 +97,6 @@ module _ (pr : Product) (b : List ℕ) (t : Table) (q : Holding (cat-of pr) b t)
       implied (attribute-says rights-only-if-stored cat (wf .rights-if-stored) c n sup) (or-right (attribute k n .W) (or-left (attribute k n .L) carried)) in
       ap (λ (x : List ℕ). bytes-at k x at n) (q .is) ∙ live-read pr t h i lt c at (supported-known cat c n sup) its-spot n (is-among-stored k n sup st)
 
-  -- a content judged alone
-  pub legal-in-table : (n : ℕ) (v : List ℕ) → legal-at (is-in cat b) k b at n v ≡ legal-content (holds cat t) k (contents cat t c i) n v
-  legal-in-table = legal-is pr b t q k b at (contents cat t c i) live-shown
-
   -- several, cut off one after another
   pub bad-in-table : (m v : List ℕ) → bad-among (is-in cat b) k b at m v ≡ illegal (holds cat t) k (contents cat t c i) (cut (size-of k) m v)
   bad-in-table = bad-is pr b t q k b at (contents cat t c i) live-shown

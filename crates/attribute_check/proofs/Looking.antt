@@ -24,7 +24,8 @@ pub judgeable : {k : Class} {n : ℕ} {a : Attribute} → DescribedIn k n a → 
 judgeable d = record { wide = d .wide; looks = d .looks }
 
 -- and to be legal by it is to be legal for its attribute
-pub by-its-line : (there : ℕ → ℕ → Bool) {k : Class} {n : ℕ} {a : Attribute} → DescribedIn k n a → (b : List ℕ) (at : ℕ) (v : List ℕ) → legal-by there k b at a v ≡ legal-at there k b at n v
+pub by-its-line : (there : ℕ → ℕ → Bool) {k : Class} {n : ℕ} {a : Attribute} → DescribedIn k n a → (b : List ℕ) (at : ℕ) (v : List ℕ)
+    → legal-by there k b at a v ≡ legal-at there k b at n v
 unfolding legal-by legal-at
 by-its-line there {k} d b at v = ap (λ (x : rules.Attribute). passes there ((x .rule) v (fixed-at k b at))) (d .is)
 
@@ -48,6 +49,7 @@ module _ (k : Class) (n : ℕ) (b : List ℕ) (at : ℕ) (s : Looked k n) (room 
   looked-number (suc m) r c others e z = rw e refl
 
   -- the byte that the code reads
-  pub looked-condition : {r : Attribute} → DescribedIn k n r → {x c : ℕ} {rule : Rule} → rule ≡ Pointer c → n ≢ 0 → x ≡ getD b (at + r .at) 0 → x ≡ looked-at rule n (fixed-at k b at)
+  pub looked-condition : {r : Attribute} → DescribedIn k n r → {x c : ℕ} {rule : Rule} → rule ≡ Pointer c → n ≢ 0 → x ≡ getD b (at + r .at) 0
+      → x ≡ looked-at rule n (fixed-at k b at)
   looked-condition {r} d {x} {c} {rule} e z h =
       h ∙ ap (λ (o : ℕ). getD b (at + o) 0) (d .placed (s .kept) (s .is-there)) ∙ sym looked-byte ∙ looked-number n rule c (fixed-at k b at) e z

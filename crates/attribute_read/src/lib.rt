@@ -86,7 +86,8 @@ fn item_for(product: Product, class: u16, n: u16, at: usize) -> Item
 // How many places of one of two tables are of a class and hold a number.
 fn naming(live: &[u8], frozen: &[u8], which: Which, class: u16, at: usize, number: u16) -> usize
     requires { ⌜ InShape (chosen which (now live) (now frozen)) × (at + 2 ≤ place-width) ⌝ }
-    ensures { λ r. ⌜ r ≡ how-many-hold class at number (byte (chosen which (now (live .entry)) (now (frozen .entry))) 1) (drop places-at (chosen which (now (live .entry)) (now (frozen .entry)))) ⌝ }
+    ensures { λ r. ⌜ r
+        ≡ how-many-hold class at number (byte (chosen which (now (live .entry)) (now (frozen .entry))) 1) (drop places-at (chosen which (now (live .entry)) (now (frozen .entry)))) ⌝ }
 {
     match which {
         Which::Live => table::naming(live, class, at, number),
@@ -141,7 +142,8 @@ pub fn pack<'a>(
     out: &mut [u8],
 )
     requires { ⌜ Packable product which (now live) (now frozen) (what .class) (what .number) (what .at) (what .mask) (length (now out)) ⌝ }
-    ensures { λ _. ⌜ now (out .exit) ≡ laid 0 (values-at (cat-of product) (chosen which (now (live .entry)) (now (frozen .entry))) (what .class) (what .number) (what .at) (named (what .mask))) (now (out .entry)) ⌝ }
+    ensures { λ _. ⌜ now (out .exit)
+        ≡ laid 0 (values-at (cat-of product) (chosen which (now (live .entry)) (now (frozen .entry))) (what .class) (what .number) (what .at) (named (what .mask))) (now (out .entry)) ⌝ }
 {
     let mut left = what.mask;
     let mut to = 0;

@@ -7,7 +7,8 @@ use lib.ListN.{length, take, drop}
 use Rattle.rules.specs.Maps.{among, all}
 use Rattle.rules.specs.Bytes.{laid}
 use Rattle.rules.specs.Masks.{total}
-use Rattle.rules.specs.Catalogue.{constant, copied, Source, stored, of-creator, count-of, Class, attribute, size-of, stored-numbers, leader}
+use Rattle.rules.specs.Catalogue.{constant, copied, Source, stored, of-creator, count-of, Class, attribute, size-of, stored-numbers}
+use Rattle.rules.specs.Catalogue.{leader}
 use Rattle.rules.specs.State.{Contents}
 use Rattle.store.specs.Layout.{contents-width}
 use Rattle.class_tables.specs.Built.{cat-of, class-for}

@@ -49,7 +49,8 @@ fn put_bytes(b: &mut [u8], at: usize, size: usize, x: u16)
 // Writes the first content of one attribute.
 fn lay_first(b: &mut [u8], at: usize, product: Product, class: u16, n: u16, from: &[u8])
     requires { ⌜ LayingFirsts (class-for product class) (leading-class product class) at (n ∷ []) (now from) (now b) ⌝ }
-    ensures { λ _. ⌜ now (b .exit) ≡ laid-values (class-for product class) at (firsts (class-for product class) (leading-class product class) (now (from .entry)) (n ∷ [])) (now (b .entry)) ⌝ }
+    ensures { λ _. ⌜ now (b .exit)
+        ≡ laid-values (class-for product class) at (firsts (class-for product class) (leading-class product class) (now (from .entry)) (n ∷ [])) (now (b .entry)) ⌝ }
 {
     let a = attributes::attribute_of(product, class, n);
     let way = a.way;
@@ -71,7 +72,8 @@ fn lay_first(b: &mut [u8], at: usize, product: Product, class: u16, n: u16, from
 // Writes the first contents of the attributes that a mask names; `from` are the contents of the leading instance.
 pub fn lay_firsts(b: &mut [u8], at: usize, product: Product, class: u16, asked: u16, from: &[u8])
     requires { ⌜ LayingFirsts (class-for product class) (leading-class product class) at (named asked) (now from) (now b) ⌝ }
-    ensures { λ _. ⌜ now (b .exit) ≡ laid-values (class-for product class) at (firsts (class-for product class) (leading-class product class) (now (from .entry)) (named asked)) (now (b .entry)) ⌝ }
+    ensures { λ _. ⌜ now (b .exit)
+        ≡ laid-values (class-for product class) at (firsts (class-for product class) (leading-class product class) (now (from .entry)) (named asked)) (now (b .entry)) ⌝ }
 {
     let mut left = asked;
     while left != 0 {

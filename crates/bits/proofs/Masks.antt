@@ -3,12 +3,12 @@ use Prim.Native.Nat.{ℕ, zero, suc, _+_, _*_, _-_, _/_, _%_, _^_, _<_, _≤_}
 use native.Mathlib.Nat.{pow-suc, add-assoc, add-mul, one-mul, mod-lt, div-lt-iff-lt-mul}
 use native.Mathlib.Omega.{arith}
 use mathlib.Core.Path.{_≡_, refl, sym, _∙_, ap}
-use mathlib.Core.Bool.{Bool, true, false, not, _&&_}
+use mathlib.Core.Bool.{Bool, true, not, _&&_}
 use mathlib.Core.List.{List, [], _∷_, _++_}
 use lib.ListN.{length}
 use lib.Dec.{eqb, ltb, leb}
 use lib.Pow.{pow-pos, pow-mono, pow-add, mod-pow-add, split, high, shl-shr}
-use lib.Bits.{bitAnd, and-shr, and-mod, and-le-l}
+use lib.Bits.{bitAnd, and-shr, and-mod}
 use lib.Count.{ones, ones-cat, leadingZeros, leading-top}
 use Rattle.rules.specs.Maps.{_and_, _or_, rising, among, all, empty, those}
 use Rattle.rules.specs.Masks.{attribute-numbers, in-mask, named, mask}
@@ -82,9 +82,6 @@ named-within m = within-those (in-mask m) 1 attribute-numbers numbers-within
 
 pub named-rising : (m : ℕ) → rising (named m) ≡ true
 named-rising m = within-rising 1 (named m) (named-within m)
-
-pub named-among : (m n : ℕ) → among n (named m) ≡ true → (1 ≤ n) × (n ≤ 16)
-named-among m n h = within-among 1 n (named m) (named-within m) h
 
 pub named-few : (m : ℕ) → length (named m) ≤ 16
 named-few m = omega (arith, within-few 1 (named m) (omega arith) (named-within m))
@@ -165,15 +162,6 @@ none-in (n ∷ l) {r} e = sym (eqb-false r 0 (omega (arith, pow-pos (16 - n))))
 pub named-none : named 0 ≡ []
 named-none = unfold named those in refl
 
-pub empty-named : (m : ℕ) → m < 65536 → empty (named m) ≡ eqb m 0
-empty-named m h = same? m 0
-    (λ e. rw (e, named-none))
-    (λ e. rw (eqb-false m 0 e) (some (named m) (λ q. e (sym (mask-named m h) ∙ rw q (unfold mask in refl)))))
-  where
-    some : (l : List ℕ) → (l ≡ [] → ⊥) → empty l ≡ false
-    some [] n = absurd (n refl)
-    some (x ∷ l) n = refl
-
 -- ---- a list's mask, bit by bit
 
 pub numbers-among : (n : ℕ) → 1 ≤ n → n ≤ 16 → among n attribute-numbers ≡ true
@@ -216,17 +204,6 @@ unfolding named
 named-and m k =
     those-same (in-mask (bitAnd m k)) (λ n. in-mask m n && in-mask k n) 1 attribute-numbers numbers-within (λ n i j. in-mask-and m k n)
     ∙ sym (those-those (in-mask k) (in-mask m) attribute-numbers)
-
--- a test of numbers that a mask knows
-module _ (m k : ℕ) (p : ℕ → Bool) (h : (n : ℕ) → 1 ≤ n → n ≤ 16 → in-mask k n ≡ p n) where
-  pub those-named : those p (named m) ≡ named (bitAnd m k)
-  those-named = sym (named-and m k ∙ those-same (in-mask k) p 1 (named m) (named-within m) h)
-
-  pub mask-those : m < 65536 → mask (those p (named m)) ≡ bitAnd m k
-  mask-those i = rw those-named (mask-named (bitAnd m k) (omega (arith, and-le-l m k)))
-
-  pub empty-those : m < 65536 → empty (those p (named m)) ≡ eqb (bitAnd m k) 0
-  empty-those i = rw those-named (empty-named (bitAnd m k) (omega (arith, and-le-l m k)))
 
 -- ---- the bits that a mask lacks
 

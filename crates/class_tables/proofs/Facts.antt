@@ -1,17 +1,17 @@
 -- What holds of every class of every product, whatever its number: one test each, computed over all that are built.
 use Prim.Native.Nat.{ℕ, _+_, _≤_, _<_}
 use mathlib.Core.Path.{_≡_, refl}
-use mathlib.Core.Bool.{true, false, not, Bool}
+use mathlib.Core.Bool.{true, false, Bool}
 use mathlib.Core.List.{List, []}
 use lib.ListN.{length}
 use lib.Dec.{eqb, ltb, leb}
 use Rattle.rules.specs.Maps.{_and_, _or_, keys, every, rising, among, all, keep}
 use Rattle.rules.specs.Masks.{mask, total}
-use Rattle.rules.specs.Catalogue.{constant, copied, Source, stored, of-creator, count-of, Class, Catalogue, class, attribute, no-attribute, supported, size-of, stored-numbers}
-use Rattle.rules.specs.Catalogue.{carried-numbers, is-created, leader, ont-data, no-class}
+use Rattle.rules.specs.Catalogue.{constant, copied, Source, stored, of-creator, count-of, Class, Catalogue, class, attribute, supported, size-of, stored-numbers}
+use Rattle.rules.specs.Catalogue.{carried-numbers, is-created, leader, no-class}
 use Rattle.rules.specs.Walks.{sections-of}
-use Rattle.rules.proofs.Laws.{cases, or-cases, or-right, eqb-true, true-false, not-true, both, eqb-eq, leb-le, ltb-lt, every-find, all-among}
-use Rattle.rules.proofs.Lookups.{known-attribute, unknown-attribute, unknown-class}
+use Rattle.rules.proofs.Laws.{or-cases, or-right, eqb-true, true-false, both, eqb-eq, leb-le, ltb-lt, all-among}
+use Rattle.rules.proofs.Lookups.{unknown-class}
 use Rattle.bits.proofs.Masks.{Within, is-attribute, rising-within}
 use Rattle.store.specs.Layout.{place-width, contents-width}
 use Rattle.store.specs.Positions.{inside}
@@ -97,17 +97,6 @@ first-or-made pr c au = or-cases
     (λ e. or-right (is-created (class-for pr (leader (cat-of pr) c) .creation)) (eqb-true (inside (cat-of pr) c) 0 (unknown-inside pr c e))))
     (λ t. true-false t au)
     (λ t. eqb-eq (inside (cat-of pr) c) 0 t)
-
--- no attribute of class 2 is reported
-pub class-2-not-reported : (pr : Product) (n : ℕ) → attribute (class-for pr ont-data) n .L ≡ false
-unfolding no-attribute
-class-2-not-reported pr n =
-    let k : Class = class-for pr ont-data in
-    cases (supported k n)
-    (λ e.
-    not-true (every-find (λ n a. not (a .L)) (k .attributes)
-    (in-each (λ cat. every (λ n a. not (a .L)) (class cat ont-data .attributes)) (unfold computing-tables in refl) pr) n (attribute k n) (known-attribute k n e)))
-    (λ e. rw (unknown-attribute k n e) refl)
 
 -- what is copied into a first content is stored with the leading instance
 abbrev copies-one-of : List ℕ → Source → Bool

@@ -5,10 +5,10 @@ use mathlib.Core.Path.{_≡_, refl}
 use mathlib.Core.Bool.{Bool, true, false}
 use mathlib.Core.List.{List, []}
 use lib.Dec.{eqb}
-use Rattle.rules.specs.Maps.{_and_, keys, among, all}
+use Rattle.rules.specs.Maps.{keys, among, all}
 use Rattle.rules.specs.Bytes.{bit}
 use Rattle.rules.specs.Masks.{attribute-numbers, in-mask, mask}
-use Rattle.rules.specs.Catalogue.{Class, attribute, supported, is-stored, stored-numbers, carried-numbers}
+use Rattle.rules.specs.Catalogue.{Class, attribute, supported}
 use Rattle.rules.proofs.Laws.{eqb-eq, all-among}
 use Rattle.class_tables.specs.Built.{class-for}
 use Rattle.class_tables.specs.Masks.{writable-numbers}
@@ -39,9 +39,3 @@ module _ (pr : Product) (c n : ℕ) (a : among n attribute-numbers ≡ true) whe
 
   pub writable-bit : in-mask (mask (writable-numbers (class-for pr c))) n ≡ attribute (class-for pr c) n .W
   writable-bit = bit-agrees writable-numbers (λ k m. attribute k m .W) (unfold computing-tables in (refl, refl)) pr c n a
-
-  pub carried-bit : in-mask (mask (carried-numbers (class-for pr c))) n ≡ attribute (class-for pr c) n .C
-  carried-bit = bit-agrees carried-numbers (λ k m. attribute k m .C) (unfold computing-tables in (refl, refl)) pr c n a
-
-  pub stored-bit : in-mask (mask (stored-numbers (class-for pr c))) n ≡ (supported (class-for pr c) n and is-stored (attribute (class-for pr c) n .source))
-  stored-bit = bit-agrees stored-numbers (λ k m. supported k m and is-stored (attribute k m .source)) (unfold computing-tables in (refl, refl)) pr c n a

@@ -67,7 +67,8 @@ module _ (pr : Product) where
       let rest : family-width l ≤ length (drop n b) = simp length-drop (omega arith) in
       rw (rw (cl .0) at first, free-tested l (drop n b) (cl .1) rest (bytes-drop n b bs) f, drop-drop (family-width l) n b) refl
 
-  pub entry-tested : (c : ℕ) (b : List ℕ) (k : Class) (l : Map Class) (width : ℕ) → family (cat-of pr) c ≡ (c, k) ∷ l → family-width ((c, k) ∷ l) ≡ width → free pr (keys l) ≡ true
+  pub entry-tested : (c : ℕ) (b : List ℕ) (k : Class) (l : Map Class) (width : ℕ) → family (cat-of pr) c ≡ (c, k) ∷ l → family-width ((c, k) ∷ l) ≡ width
+      → free pr (keys l) ≡ true
       → width ≤ length b → are-bytes b ≡ true → family-test (cat-of pr) (family (cat-of pr) c) b ≡ (contents-test pr c b and all-zero (drop width b))
   entry-tested c b k l width e w f room bs =
       let cl : Each (λ c k. class-for pr c ≡ k) ((c, k) ∷ l) = rw e at (family-classes (cat-of pr) (well-formed-of pr) c) in

@@ -39,7 +39,8 @@ fn command(
     out: &mut [u8],
 )
     requires { ⌜ Sound product (now store) × (among kind without-result ≡ false) × (length (now v) ≡ 32) × (now out ≡ replicate 32 0) ⌝ }
-    ensures { λ _. ⌜ Leaves product (answer (cat-of product) (state-in product (now (store .entry))) kind class number (now (v .entry))) (now (store .entry)) (now (store .exit)) (now (out .exit)) ⌝ }
+    ensures { λ _. ⌜ Leaves product (answer (cat-of product) (state-in product (now (store .entry))) kind class number (now (v .entry)))
+        (now (store .entry)) (now (store .exit)) (now (out .exit)) ⌝ }
 {
     if !has_result(kind) {
         out[0] = NOT_SUPPORTED;
@@ -73,7 +74,8 @@ pub fn perform(
     out: &mut [u8],
 )
     requires { ⌜ Sound product (now store) × (length (now v) ≡ 32) × (now out ≡ replicate 32 0) ⌝ }
-    ensures { λ _. ⌜ Leaves product (answer (cat-of product) (state-in product (now (store .entry))) kind class number (now (v .entry))) (now (store .entry)) (now (store .exit)) (now (out .exit)) ⌝ }
+    ensures { λ _. ⌜ Leaves product (answer (cat-of product) (state-in product (now (store .entry))) kind class number (now (v .entry)))
+        (now (store .entry)) (now (store .exit)) (now (out .exit)) ⌝ }
 {
     match kind {
         ALL_ALARMS => alarm_walk::all_alarms(store, product, class, number, out),

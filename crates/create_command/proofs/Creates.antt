@@ -164,6 +164,7 @@ module _ (pr : Product) (b : List ℕ) (h : Sound pr b) (c i : ℕ) (lt : i < 65
         pub accepted : {j : ℕ} {x : List ℕ} → j ≡ key c i → x ≡ with-place j r′ block → (out : List ℕ) → out ≡ replicate 32 0
             → Leaves pr (create cat s c i v) b (putMid live-at block-length b x) out
         accepted e f out z = rw answer (record {
-          store = ap (putMid live-at block-length b) (f ∙ (λ d. with-place (e d) (is d) block) ∙ put-in) ∙ live-given-back pr b h (move-counter cat made) (move-counter-legal cat wf made made-legal);
+          store = ap (putMid live-at block-length b) (f ∙ (λ d. with-place (e d) (is d) block) ∙ put-in)
+              ∙ live-given-back pr b h (move-counter cat made) (move-counter-legal cat wf made made-legal);
           reply = z;
         })

@@ -136,6 +136,7 @@ put-in-is k r b e f g = g ∙ ap moved-on (f ∙ ap (λ (j : ℕ). laid in-use-a
 
 -- ---- the reply with the bad bits
 
-pub reply-long : (out : List ℕ) (m : ℕ) {x : List ℕ} → out ≡ replicate 32 0 → x ≡ take 1 (set out 0 bad-parameter) ++ (bytes 2 m ++ drop 3 (set out 0 bad-parameter)) → length x ≡ length out
+pub reply-long : (out : List ℕ) (m : ℕ) {x : List ℕ} → out ≡ replicate 32 0 → x ≡ take 1 (set out 0 bad-parameter) ++ (bytes 2 m ++ drop 3 (set out 0 bad-parameter))
+    → length x ≡ length out
 unfolding bytes
 reply-long out m z e = ap length (e ∙ ap (λ (o : List ℕ). take 1 (set o 0 bad-parameter) ++ (bytes 2 m ++ drop 3 (set o 0 bad-parameter))) z) ∙ sym (ap length z)

@@ -158,7 +158,8 @@ module _ (cat : Catalogue) (s : State) (c i : ℕ) (v : List ℕ) where
 
   create-accepted-is : CreateAccepted → NoneApplies (create-results cat s c i v) × (create cat s c i v ≡ (with-table (move-counter cat with-new) s, 0 ∷ []))
   unfolding create create-results
-  create-accepted-is = unless-refused-is (λ a. byte (a .1) 0 ≡ 0 → NoneApplies (create-results cat s c i v) × (a ≡ (with-table (move-counter cat with-new) s, 0 ∷ []))) s (create-results cat s c i v) _
+  create-accepted-is = unless-refused-is (λ a. byte (a .1) 0 ≡ 0 → NoneApplies (create-results cat s c i v) × (a ≡ (with-table (move-counter cat with-new) s, 0 ∷ []))) s
+      (create-results cat s c i v) _
       (λ r e y. absurd (first-has (λ r. byte r 0 ≢ 0) (create-results cat s c i v)
       ((λ y. above-0 6), ((λ y. above-0 2), ((λ y. above-0 0), tt))) r e y))
       (λ clear y. (clear, refl))
@@ -197,7 +198,8 @@ module _ (cat : Catalogue) (wf : WellFormed cat) (s : State) (legal : legal-stat
       → content n (new-contents (carried-by (class cat c) v) (class cat c)) ≡ content n (carried-by (class cat c) v)
   unfolding content new-contents
   carried-content n h = rw (
-    find-each (λ n a. cond (a .C) (content n (carried-by (class cat c) v)) (first-content (carried-by (class cat c) v) (a .source))) n (keep (λ n a. is-stored (a .source)) (class cat c .attributes)),
+    find-each (λ n a. cond (a .C) (content n (carried-by (class cat c) v)) (first-content (carried-by (class cat c) v) (a .source))) n
+        (keep (λ n a. is-stored (a .source)) (class cat c .attributes)),
     find-kept (λ n a. is-stored (a .source)) n (attribute (class cat c) n) (class cat c .attributes) (known-attribute (class cat c) n (C-supported (class cat c) n h)) (C-is-stored cat wf c n h),
     h,
   )
@@ -394,7 +396,8 @@ module _ (cat : Catalogue) (wf : WellFormed cat) (s : State) (legal : legal-stat
       (ap not (and-true (eqb-true (leader cat (class-of (key d i))) c (ap (leader cat) (key-class d i small) ∙ l)) (eqb-true (number-of (key d i)) i (key-number d i small)))))
 
   -- After an accepted Delete, the alarms of every other instance are as before.
-  pub a-delete-changes-no-other-alarms : (d j : ℕ) → j < 65536 → (leader cat d ≡ c → j ≡ i → ⊥) → alarms-of (key d j) (delete cat s c i .0 .alarms) ≡ alarms-of (key d j) (s .alarms)
+  pub a-delete-changes-no-other-alarms : (d j : ℕ) → j < 65536 → (leader cat d ≡ c → j ≡ i → ⊥)
+      → alarms-of (key d j) (delete cat s c i .0 .alarms) ≡ alarms-of (key d j) (s .alarms)
   unfolding without goes-with alarms-of
   a-delete-changes-no-other-alarms d j small-too other =
       ap (λ (a : Answer). alarms-of (key d j) (a .0 .alarms)) (delete-accepted-is cat s c i yes .1)
@@ -439,7 +442,8 @@ module _ (cat : Catalogue) (wf : WellFormed cat) (s : State) (c i : ℕ) (v : Li
   create-or-refused : byte (answer cat s create-number c i v .1) 0 ≡ 0
       → NoneApplies (first-results cat create-number c) × (answer cat s create-number c i v ≡ create cat s c i v)
   unfolding answer perform first-that-applies first-results
-  create-or-refused = unless-refused-is (λ a. byte (a .1) 0 ≡ 0 → NoneApplies (first-results cat create-number c) × (a ≡ create cat s c i v)) s (first-results cat create-number c) (create cat s c i v)
+  create-or-refused = unless-refused-is (λ a. byte (a .1) 0 ≡ 0 → NoneApplies (first-results cat create-number c) × (a ≡ create cat s c i v)) s (first-results cat create-number c)
+      (create cat s c i v)
       (λ r e y. absurd (first-has (λ r. byte r 0 ≢ 0) (first-results cat create-number c)
       ((λ y. above-0 cat s c i v 1), ((λ y. above-0 cat s c i v 3), ((λ y. above-0 cat s c i v 1), tt))) r e y))
       (λ clear y. (clear, refl))
@@ -447,7 +451,8 @@ module _ (cat : Catalogue) (wf : WellFormed cat) (s : State) (c i : ℕ) (v : Li
   delete-or-refused : byte (answer cat s delete-number c i v .1) 0 ≡ 0
       → NoneApplies (first-results cat delete-number c) × (answer cat s delete-number c i v ≡ delete cat s c i)
   unfolding answer perform first-that-applies first-results
-  delete-or-refused = unless-refused-is (λ a. byte (a .1) 0 ≡ 0 → NoneApplies (first-results cat delete-number c) × (a ≡ delete cat s c i)) s (first-results cat delete-number c) (delete cat s c i)
+  delete-or-refused = unless-refused-is (λ a. byte (a .1) 0 ≡ 0 → NoneApplies (first-results cat delete-number c) × (a ≡ delete cat s c i)) s (first-results cat delete-number c)
+      (delete cat s c i)
       (λ r e y. absurd (first-has (λ r. byte r 0 ≢ 0) (first-results cat delete-number c)
       ((λ y. above-0 cat s c i v 1), ((λ y. above-0 cat s c i v 3), ((λ y. above-0 cat s c i v 1), tt))) r e y))
       (λ clear y. (clear, refl))

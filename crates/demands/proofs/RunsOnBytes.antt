@@ -30,7 +30,8 @@ what-the-buffer-held-changes-nothing products c store buffer buffer′ e = rw e 
     (λ x. rw x (refl, refl))
     (λ x. rw x (go (decode products store))))
   where
-    left : (h : Held) (s : State) (o : Outcome) → (leave h store buffer s o .outcome ≡ leave h store buffer′ s o .outcome) × (leave h store buffer s o .store ≡ leave h store buffer′ s o .store)
+    left : (h : Held) (s : State) (o : Outcome)
+        → (leave h store buffer s o .outcome ≡ leave h store buffer′ s o .outcome) × (leave h store buffer s o .store ≡ leave h store buffer′ s o .store)
     left h s (dropped n) = (refl, refl)
     left h s quiet = (refl, refl)
     left h s (answered r) = (refl, refl)

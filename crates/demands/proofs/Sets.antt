@@ -82,7 +82,8 @@ module _ (cat : Catalogue) (t : Table) (c i : ℕ) (f : Contents → Contents) w
       pick none = sym fe
       pick (some r) = refl
 
-      go : (o : Option Entry) → given (find c (given (given {B = Option Entry} o none (λ a. some (at-key c f a))) [] (λ e. e))) [] (λ r. r) ≡ f (given (find c (given o [] (λ e. e))) [] (λ r. r))
+      go : (o : Option Entry)
+          → given (find c (given (given {B = Option Entry} o none (λ a. some (at-key c f a))) [] (λ e. e))) [] (λ r. r) ≡ f (given (find c (given o [] (λ e. e))) [] (λ r. r))
       go none = sym fe
       go (some e) = rw (find-each (λ n a. cond (eqb n c) (f a) a) c e, eqb-true c c refl) (pick (find c e))
 

@@ -76,7 +76,8 @@ pub each-attribute-is-shown-once : (cat : Catalogue) (t : Table) → shown-by (s
 unfolding shown-by all-attributes sections sections-of
 each-attribute-is-shown-once cat t =
     gather-gather show (λ e. gather (λ i. cuts e i) (instances-of (e .0) (e .1) t)) (cat .classes)
-    ∙ gather-same (λ e. gather show (gather (λ i. cuts e i) (instances-of (e .0) (e .1) t))) (λ e. gather (λ i. map (λ n. (e .0, i, n)) (keys (e .1 .attributes))) (instances-of (e .0) (e .1) t))
+    ∙ gather-same (λ e. gather show (gather (λ i. cuts e i) (instances-of (e .0) (e .1) t)))
+    (λ e. gather (λ i. map (λ n. (e .0, i, n)) (keys (e .1 .attributes))) (instances-of (e .0) (e .1) t))
     (λ e. gather-gather show (cuts e) (instances-of (e .0) (e .1) t)
     ∙ gather-same (λ i. gather show (cuts e i)) (λ i. map (λ n. (e .0, i, n)) (keys (e .1 .attributes)))
     (λ i. gather-map show (λ l. record { of-class = e .0; of-instance = i; shows = l }) (sections-of (e .1))
@@ -185,7 +186,8 @@ all-nth p (x ∷ l) h zero a e = ap p (sym (some-eq e)) ∙ both h .0
 all-nth p (x ∷ l) h (suc k) a e = all-nth p l (both h .1) k a e
 
 -- Every section fits: in any well-formed catalogue, what a section of any table shows has at most 26 bytes by the attributes' sizes.
-pub every-section-fits : (cat : Catalogue) → WellFormed cat → (t : Table) (k : ℕ) (p : Section) → nth (sections cat t) k ≡ some p → total (size-of (class cat (p .of-class))) (p .shows) ≤ 26
+pub every-section-fits : (cat : Catalogue) → WellFormed cat → (t : Table) (k : ℕ) (p : Section) → nth (sections cat t) k ≡ some p
+    → total (size-of (class cat (p .of-class))) (p .shows) ≤ 26
 every-section-fits cat wf t k p e = leb-le (total (size-of (class cat (p .of-class))) (p .shows)) 26 (both (all-nth (is-good cat wf) (sections cat t) (all-sections-good cat wf t) k p e) .1)
 
 -- No section is empty.

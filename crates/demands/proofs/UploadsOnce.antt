@@ -179,7 +179,8 @@ module _ (cat : Catalogue) (wf : WellFormed cat) (t : Table) (h : LegalTable cat
       found-in k (t .automatic) (t .created) e found
       (λ x.
       let here : among k (keys (t .automatic)) ≡ true = rw (← has-among k (t .automatic), x) refl in
-      let one : times k (keys (t .automatic)) ≡ 1 = ap (times k) (h .automatic-keys) ∙ times-once 0 k (automatic-keys cat) (automatic-rise cat wf) (ap (among k) (sym (h .automatic-keys)) ∙ here) in
+      let one : times k (keys (t .automatic)) ≡ 1 = ap (times k) (h .automatic-keys)
+      ∙ times-once 0 k (automatic-keys cat) (automatic-rise cat wf) (ap (among k) (sym (h .automatic-keys)) ∙ here) in
       let zero : times k (keys (t .created)) ≡ 0 = times-none k (keys (t .created)) (cases (among k (keys (t .created)))
       (λ y. let f = find-some k (t .created) (has-among k (t .created) ∙ y) in
       true-false (every-find (λ k e. is-created (class cat (class-of k) .creation)) (t .created) (h .all-created) k (f .0) (f .1))

@@ -45,7 +45,8 @@ result-in r = byte r 8
 
 -- E4's Create: MaxAge 05FF
 unfoldable pub create-with-bad-max-age : List ℕ
-create-with-bad-max-age = 0 ∷ 1 ∷ 0x44 ∷ 0x0A ∷ 0 ∷ 45 ∷ 0 ∷ 1 ∷ 1 ∷ 1 ∷ 0 ∷ 0x80 ∷ 0 ∷ 0x05 ∷ 0xFF ∷ 2 ∷ 0 ∷ 0x0F ∷ 0 ∷ replicate 21 0 ++ 0 ∷ 0 ∷ 0 ∷ 0x28 ∷ 0 ∷ 0 ∷ 0 ∷ 0 ∷ []
+create-with-bad-max-age = 0 ∷ 1 ∷ 0x44 ∷ 0x0A ∷ 0 ∷ 45 ∷ 0 ∷ 1 ∷ 1 ∷ 1 ∷ 0 ∷ 0x80 ∷ 0 ∷ 0x05 ∷ 0xFF ∷ 2 ∷ 0 ∷ 0x0F ∷ 0 ∷ replicate 21 0 ++ 0 ∷ 0 ∷ 0 ∷
+    0x28 ∷ 0 ∷ 0 ∷ 0 ∷ 0 ∷ []
 
 -- its reply: 3, mask 0800
 unfoldable pub refused-reply : List ℕ

@@ -23,7 +23,9 @@ ghost use Rattle.engine.specs.Entering.{Enters};
 // Answers a command that is no repeat, and remembers it.
 fn answer_anew(store: &mut [u8], product: Product, m: &[u8], reply: &mut [u8])
     requires { ⌜ Sound product (now store) × (length (now m) ≡ 48) × (48 ≤ length (now reply)) ⌝ }
-    ensures { λ _. ⌜ left-by Outcome.Answered (now (store .exit)) (now (reply .exit)) ≡ leaves product (state-in product (now (store .entry))) (now (store .entry)) (now (reply .entry)) (answer-anew (cat-of product) (state-in product (now (store .entry))) (now (m .entry))) ⌝ }
+    ensures { λ _. ⌜ left-by Outcome.Answered (now (store .exit)) (now (reply .exit))
+        ≡ leaves product (state-in product (now (store .entry))) (now (store .entry)) (now (reply .entry))
+        (answer-anew (cat-of product) (state-in product (now (store .entry))) (now (m .entry))) ⌝ }
 {
     let kind = m[2] % 32;
     let class = octets::number_at(m, 4);
@@ -44,7 +46,8 @@ fn answer_anew(store: &mut [u8], product: Product, m: &[u8], reply: &mut [u8])
 // What a message does to a sound store.
 fn take_message(store: &mut [u8], product: Product, m: &[u8], reply: &mut [u8]) -> Outcome
     requires { ⌜ Sound product (now store) × (48 ≤ length (now reply)) ⌝ }
-    ensures { λ r. ⌜ left-by r (now (store .exit)) (now (reply .exit)) ≡ leaves product (state-in product (now (store .entry))) (now (store .entry)) (now (reply .entry)) (handle (cat-of product) (state-in product (now (store .entry))) (now (m .entry))) ⌝ }
+    ensures { λ r. ⌜ left-by r (now (store .exit)) (now (reply .exit))
+        ≡ leaves product (state-in product (now (store .entry))) (now (store .entry)) (now (reply .entry)) (handle (cat-of product) (state-in product (now (store .entry))) (now (m .entry))) ⌝ }
 {
     let code = message_frame::message_drop(m);
     if code != 0 {
@@ -103,7 +106,8 @@ pub fn report_attribute(
     content: &[u8],
     reply: &mut [u8],
 ) -> Outcome
-    ensures { λ r. ⌜ left-by r (now (store .exit)) (now (reply .exit)) ≡ enter built-products (attribute-report class number attribute (now (content .entry))) (now (store .entry)) (now (reply .entry)) ⌝ }
+    ensures { λ r. ⌜ left-by r (now (store .exit)) (now (reply .exit))
+        ≡ enter built-products (attribute-report class number attribute (now (content .entry))) (now (store .entry)) (now (reply .entry)) ⌝ }
 {
     let entry = begin(store, reply.len());
     match entry {

@@ -66,7 +66,8 @@ pub extern "C" fn gwz_report_attribute(
     content: &[u8],
     reply: &mut [u8],
 ) -> u8
-    ensures { λ r. ⌜ Returns r (now (store .exit)) (now (reply .exit)) (enter built-products (attribute-report «class_id» instance attribute (now (content .entry))) (now (store .entry)) (now (reply .entry))) ⌝ }
+    ensures { λ r. ⌜ Returns r (now (store .exit)) (now (reply .exit))
+        (enter built-products (attribute-report «class_id» instance attribute (now (content .entry))) (now (store .entry)) (now (reply .entry))) ⌝ }
 {
     number(engine::report_attribute(store, class_id, instance, attribute, content, reply))
 }
@@ -81,7 +82,8 @@ pub extern "C" fn gwz_report_alarm(
     on: u8,
     reply: &mut [u8],
 ) -> u8
-    ensures { λ r. ⌜ Returns r (now (store .exit)) (now (reply .exit)) (enter built-products (alarm-report «class_id» instance alarm (not (eqb on 0))) (now (store .entry)) (now (reply .entry))) ⌝ }
+    ensures { λ r. ⌜ Returns r (now (store .exit)) (now (reply .exit))
+        (enter built-products (alarm-report «class_id» instance alarm (not (eqb on 0))) (now (store .entry)) (now (reply .entry))) ⌝ }
 {
     number(engine::report_alarm(store, class_id, instance, alarm, on != 0, reply))
 }

@@ -39,9 +39,6 @@ module _ (cat : Catalogue) (wf : WellFormed cat) (t : Table) (h : LegalLive cat 
         (every-find (legal-content (holds cat t) k r) (cut (size-of k) l v) (none-kept (legal-content (holds cat t) k r) (cut (size-of k) l v) good) n w e);
   }
 
-  pub in-cut : (n : ℕ) (w : List ℕ) → find n (cut (size-of k) l v) ≡ some w → among n l ≡ true
-  in-cut n w e = rw (← keys-cut (size-of k) l v, ← has-among n (cut (size-of k) l v), e) refl
-
 -- every number that a Create carries is of a set-by-create attribute
 pub carried-is-C : (k : Class) → rising (keys (k .attributes)) ≡ true → (n : ℕ) → among n (carried-numbers k) ≡ true → attribute k n .C ≡ true
 unfolding carried-numbers

@@ -267,7 +267,8 @@ module _ (cat : Catalogue) (wf : WellFormed cat) where
   frozen-legal t h =
       let p : ℕ → Entry → Bool = λ k e. not (eqb (class-of k) ont-data) in
       record {
-        automatic-keys = keys-keep (λ k. not (eqb (class-of k) ont-data)) (t .automatic) ∙ ap (λ (l : List ℕ). those (λ k. not (eqb (class-of k) ont-data)) l) (h .automatic-keys) ∙ frozen-keys;
+        automatic-keys = keys-keep (λ k. not (eqb (class-of k) ont-data)) (t .automatic) ∙ ap (λ (l : List ℕ). those (λ k. not (eqb (class-of k) ont-data)) l) (h .automatic-keys)
+            ∙ frozen-keys;
         rise = h .rise;
         all-created = h .all-created;
         in-places = h .in-places;

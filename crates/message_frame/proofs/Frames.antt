@@ -10,7 +10,8 @@ use Rattle.rules.specs.Bytes.{bytes, fill}
 use Rattle.rules.specs.Messages.{trailer, checksum, framed}
 
 -- eight stores into eight bytes
-pub eight : (l : List ℕ) → length l ≡ 8 → (a b d e f g i j : ℕ) → set (set (set (set (set (set (set (set l 0 a) 1 b) 2 d) 3 e) 4 f) 5 g) 6 i) 7 j ≡ a ∷ b ∷ d ∷ e ∷ f ∷ g ∷ i ∷ j ∷ []
+pub eight : (l : List ℕ) → length l ≡ 8 → (a b d e f g i j : ℕ) → set (set (set (set (set (set (set (set l 0 a) 1 b) 2 d) 3 e) 4 f) 5 g) 6 i) 7 j ≡ a ∷ b ∷ d ∷ e ∷ f ∷ g
+    ∷ i ∷ j ∷ []
 eight [] h a b d e f g i j = absurd (omega (arith, h))
 eight (x₀ ∷ []) h a b d e f g i j = absurd (omega (arith, h))
 eight (x₀ ∷ x₁ ∷ []) h a b d e f g i j = absurd (omega (arith, h))

@@ -1,27 +1,20 @@
 -- Bytes laid over others: what stands before them, in their place and behind them, and what is laid over twice.
 use Prim.Native.Nat.{ℕ, _+_, _-_, _≤_, _<_}
-use native.Mathlib.Nat.{add-assoc, add-zero, zero-add}
+use native.Mathlib.Nat.{add-assoc, zero-add}
 use native.Mathlib.Omega.{arith}
 use mathlib.Core.Path.{_≡_, refl, sym, _∙_, ap}
-use mathlib.Core.Bool.{true}
 use mathlib.Core.List.{List, [], _++_, append-assoc, append-nil, _∷_}
-use lib.ListN.{length, take, drop, getD, replicate, length-append, length-replicate, length-take, length-drop, take-append-drop, drop-of-length-le, List·getD-append}
+use lib.ListN.{length, take, drop, getD, replicate, length-append, length-replicate, length-take, length-drop, take-append-drop, drop-of-length-le}
 use lib.ListN.{replicate-append-replicate, set}
-use lib.Seq.{take-at, drop-at, take-append-le, drop-append-le, take-append-add, drop-append-add, take-take, take-add, drop-drop, getD-take, getD-drop, length-take-le, set-split}
+use lib.Seq.{take-at, drop-at, take-append-le, drop-append-le, take-append-add, drop-append-add, take-take, take-add, drop-drop, getD-take, length-take-le, set-split}
 use borrow.Rule.Slice.PartMut.{midOf, putMid}
-use Rattle.rules.specs.Bytes.{bytes, fill, are-bytes, laid}
-use Rattle.rules.proofs.ByteLaws.{bytes-append, bytes-take, bytes-drop, fill-is}
+use Rattle.rules.specs.Bytes.{bytes, fill, laid}
+use Rattle.rules.proofs.ByteLaws.{fill-is}
 use native.Mathlib.Numerals.{add-one}
 
 laid-is : (at : ℕ) (v b : List ℕ) → laid at v b ≡ take at b ++ (v ++ drop (at + length v) b)
 unfolding laid
 laid-is at v b = refl
-
-pub bytes-laid : (at : ℕ) (v b : List ℕ) → are-bytes v ≡ true → are-bytes b ≡ true → are-bytes (laid at v b) ≡ true
-unfolding laid
-bytes-laid at v b h g =
-    bytes-append (take at b) (v ++ drop (at + length v) b) (bytes-take at b g)
-    (bytes-append v (drop (at + length v) b) h (bytes-drop (at + length v) b g))
 
 -- laid over all of them
 pub laid-all : (v b : List ℕ) → length v ≡ length b → laid 0 v b ≡ v
@@ -91,14 +84,6 @@ module _ (at : ℕ) (v b : List ℕ) (h : at + length v ≤ length b) where
   pub getD-laid-before : (i d : ℕ) → i < at → getD (laid at v b) i d ≡ getD b i d
   getD-laid-before i d g = sym (getD-take at (laid at v b) i d g) ∙ rw (take-laid-before at (omega arith)) (getD-take at b i d g)
 
-  pub getD-laid-inside : (i d : ℕ) → i < length v → getD (laid at v b) (at + i) d ≡ getD v i d
-  getD-laid-inside i d g = sym (getD-drop at (laid at v b) i d) ∙ rw drop-laid (List·getD-append v (drop (at + length v) b) d i g)
-
-  pub getD-laid-behind : (i d : ℕ) → at + length v ≤ i → getD (laid at v b) i d ≡ getD b i d
-  getD-laid-behind i d g =
-      let e : getD (drop i (laid at v b)) 0 d ≡ getD b (i + 0) d = rw (drop-laid-behind i g) (getD-drop i b 0 d) in
-      rw (getD-drop i (laid at v b) 0 d, add-zero i) at e
-
   -- bytes behind are left as they are
   pub laid-append : (c : List ℕ) → laid at v (b ++ c) ≡ laid at v b ++ c
   unfolding laid
@@ -142,14 +127,6 @@ take-laid-around at n v b g h =
     let e : laid at v b ≡ laid at v (take n b) ++ drop n b =
     ap (laid at v) (sym (take-append-drop n b)) ∙ laid-append at v (take n b) a (drop n b) in
     rw e (take-at (laid at v (take n b)) (drop n b) n (length-laid at v (take n b) a ∙ l))
-
--- a part that ends before the place
-pub part-laid-before : (at : ℕ) (v b : List ℕ) → at + length v ≤ length b → (k n : ℕ) → k + n ≤ at
-    → take n (drop k (laid at v b)) ≡ take n (drop k b)
-part-laid-before at v b h k n g =
-    let e : k + (at - k) ≡ at = omega arith in
-    let d : drop k (laid at v b) ≡ laid (at - k) v (drop k b) = rw e at (drop-laid-around k (at - k) v b (omega arith)) in
-    rw d (take-laid-before (at - k) v (drop k b) (simp length-drop (omega arith)) n (omega arith))
 
 -- bytes laid at two places that are apart, in either order
 pub laid-apart : (at k : ℕ) (v w b : List ℕ) → at + length v ≤ k → k + length w ≤ length b

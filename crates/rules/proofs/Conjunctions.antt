@@ -30,9 +30,6 @@ or-end a = cases a (λ e. rw e) (λ e. rw e)
 
 -- tests one after another, and what each of them is
 
-pub two-of : {p q x y : Bool} → p ≡ x → q ≡ y → (p and q) ≡ (x and y)
-two-of e f = rw (e, f)
-
 -- one that passes, and the rest
 pub passed : {p q y : Bool} → p ≡ true → q ≡ y → (p and q) ≡ y
 passed {q = q} e f = rw e (true-and q ∙ f)

@@ -10,7 +10,8 @@ use Rattle.rules.specs.Bytes.{two, bytes}
 use Rattle.rules.specs.Masks.{named, mask, total}
 use Rattle.rules.specs.Catalogue.{constant, copied, Source, stored, of-creator, count-of, Class, Catalogue, class, attribute}
 use Rattle.rules.specs.Catalogue.{supported, size-of, is-stored, carried-numbers, is-created, leader, family, key, ont-data}
-use Rattle.rules.specs.State.{Contents, Entry, Table, State, class-of, number-of, holds, contents, content, read, counter, overwrite}
+use Rattle.rules.specs.State.{Contents, Entry, Table, State, class-of, number-of, holds, contents, content, read, counter}
+use Rattle.rules.specs.State.{overwrite}
 use Rattle.rules.specs.State.{change, with-counter, with-table, with-alarms, with-upload, with-walk}
 use Rattle.rules.specs.Legal.{legal-content}
 use Rattle.rules.specs.Messages.{done, no-place, bad-parameter, unknown-instance, instance-exists, attribute-failed, next-number}

@@ -6,7 +6,8 @@ use mathlib.Core.List.{List, [], _++_}
 use lib.ListN.{length, replicate}
 use Rattle.rules.specs.Bytes.{are-bytes}
 use Rattle.rules.specs.Maps.{_and_, among, all, those}
-use Rattle.rules.specs.Catalogue.{Verdict, fine, Attribute, Creation, created, automatic, comes-with, Class, Catalogue, class, known}
+use Rattle.rules.specs.Catalogue.{Verdict, fine, Attribute, Creation, created, automatic, comes-with, Class, Catalogue, class}
+use Rattle.rules.specs.Catalogue.{known}
 use Rattle.rules.specs.Catalogue.{attribute, supported, size-of, carried-numbers, is-fixed, automatic-numbers, leader}
 use Rattle.rules.specs.State.{State, holds}
 use Rattle.rules.specs.Legal.{passes, there-or-gone}

@@ -7,7 +7,8 @@ use lib.Dec.{eqb, ltb, leb}
 use Rattle.rules.specs.Maps.{_and_, _or_, Map, given, keys, keep, every, rising, among, distinct, all, same, gather, is-some}
 use Rattle.rules.specs.Maps.{first-that-applies}
 use Rattle.rules.specs.Bytes.{byte, two, is-byte, are-bytes}
-use Rattle.rules.specs.Catalogue.{Verdict, fine, bad, asks, Creation, created, automatic, comes-with, Class, Catalogue, class, known}
+use Rattle.rules.specs.Catalogue.{Verdict, fine, bad, asks, Creation, created, automatic, comes-with, Class, Catalogue, class}
+use Rattle.rules.specs.Catalogue.{known}
 use Rattle.rules.specs.Catalogue.{attribute, size-of, stored-numbers, is-fixed, is-created, automatic-numbers, leader, family, key}
 use Rattle.rules.specs.Catalogue.{ont-data}
 use Rattle.rules.specs.State.{Contents, Entry, Table, Alarms, Memory, State, class-of, number-of, holds, content}

@@ -1,15 +1,14 @@
 -- The parts of a sound store, and what the store is when one part of its state changes.
 use Prim.Native.Nat.{ℕ, _+_}
-use native.Mathlib.Omega.{arith}
 use mathlib.Core.Path.{_≡_, refl, sym, _∙_, ap}
 use mathlib.Core.Bool.{true}
 use mathlib.Core.Option.{none, some}
 use mathlib.Core.List.{List, [], _∷_, _++_}
-use lib.ListN.{length, take, drop, replicate, take-append-drop, length-append, set}
-use lib.Seq.{take-at, drop-at}
+use lib.ListN.{take, drop, replicate, take-append-drop, set}
+use lib.Seq.{take-at}
 use Rattle.rules.specs.Maps.{Map}
 use Rattle.rules.specs.Bytes.{laid, fill}
-use Rattle.rules.specs.State.{Table, Alarms, Memory, State, with-table, with-alarms, with-alarm-number, with-memory, with-upload, with-walk}
+use Rattle.rules.specs.State.{Table, Alarms, State, with-table, with-alarms, with-alarm-number, with-upload, with-walk}
 use Rattle.rules.specs.Legal.{legal-state, legal-live}
 use Rattle.rules.specs.Run.{store-length}
 use Rattle.rules.proofs.Laws.{both}
@@ -101,11 +100,6 @@ module _ (pr : Product) (b : List ℕ) (h : Sound pr b) where
   unfolding stored
   alarms-changed m = laid-over.alarms-laid (product-of pr) (cat-of pr) now remembers rest m ∙ ap (laid alarms-at (code-alarms (cat-of pr) m)) (sym in-parts)
 
-  pub memory-changed : (r : Memory) → length (code-memory r) ≡ memory-length
-      → stored pr (with-memory (some r) now) b ≡ laid memory-at (1 ∷ code-memory r) b
-  unfolding stored
-  memory-changed r e = laid-over.memory-laid (product-of pr) (cat-of pr) now remembers rest r e ∙ ap (laid memory-at (1 ∷ code-memory r)) (sym in-parts)
-
   pub upload-changed : (u : Table) → stored pr (with-upload (some u) now) b ≡ laid upload-at (1 ∷ code-table u) b
   unfolding stored
   upload-changed u = laid-over.upload-laid (product-of pr) (cat-of pr) now remembers rest u ∙ ap (laid upload-at (1 ∷ code-table u)) (sym in-parts)
@@ -113,10 +107,6 @@ module _ (pr : Product) (b : List ℕ) (h : Sound pr b) where
   pub upload-ended : stored pr (with-upload none now) b ≡ laid upload-at (0 ∷ replicate table-length 0) b
   unfolding stored
   upload-ended = laid-over.no-upload-laid (product-of pr) (cat-of pr) now remembers rest ∙ ap (laid upload-at (0 ∷ replicate table-length 0)) (sym in-parts)
-
-  pub walk-changed : (m : Map Alarms) → stored pr (with-walk (some m) now) b ≡ laid walk-at (1 ∷ code-alarms (cat-of pr) m) b
-  unfolding stored
-  walk-changed m = laid-over.walk-laid (product-of pr) (cat-of pr) now remembers rest m ∙ ap (laid walk-at (1 ∷ code-alarms (cat-of pr) m)) (sym in-parts)
 
   pub walk-ended : stored pr (with-walk none now) b ≡ laid walk-at (0 ∷ replicate slot-count 0) b
   unfolding stored
@@ -145,17 +135,3 @@ module _ (pr : Product) (b : List ℕ) (s : State) (g : legal-state (cat-of pr) 
   pub state-after : state-in pr (stored pr s b) ≡ s
   unfolding state-in
   state-after = ap (read-state (cat-of pr)) front ∙ read-back (product-of pr) (cat-of pr) s (well-formed-of pr) (fits-of pr) g
-
-  pub sound-after : Sound pr (stored pr s b)
-  unfolding stored
-  sound-after = record {
-    long = rw (length-append (encode (product-of pr) (cat-of pr) s) (drop store-length b), legal-length (product-of pr) (cat-of pr) s g) (omega arith);
-    legal = rw state-after g;
-    is = front ∙ ap (encode (product-of pr) (cat-of pr)) (sym state-after);
-  }
-
-  -- a second change leaves what the change alone would leave
-  pub stored-twice : (u : State) → stored pr u (stored pr s b) ≡ stored pr u b
-  unfolding stored
-  stored-twice u = ap (λ (x : List ℕ). encode (product-of pr) (cat-of pr) u ++ x)
-      (drop-at (encode (product-of pr) (cat-of pr) s) (drop store-length b) store-length (legal-length (product-of pr) (cat-of pr) s g))

@@ -98,7 +98,8 @@ module _ (cat : Catalogue) (wf : WellFormed cat) where
             (λ p. let p₁ = both p in let q = both (p₁ .0) in let q₂ = both (q .1) in let q₃ = both (q₂ .1) in let q₄ = both (q₃ .1) in let q₅ = both (q₄ .1) in
             let v = both (q₅ .0) in let s = both (p₁ .1) in
             and-true (and-true (v .0) (s .0)) (and-true (and-true (both (q .0) .1) (and-true (q₂ .0) (and-true (q₃ .0) (and-true (q₄ .0) (and-true (v .1) (q₅ .1)))))) (s .1)))
-            (λ p. let p₁ = both p in let v = both (p₁ .0) in let w = both (p₁ .1) in let q = both (w .0) in let q₂ = both (q .1) in let q₃ = both (q₂ .1) in let q₄ = both (q₃ .1) in let q₅ =
+            (λ p. let p₁ = both p in let v = both (p₁ .0) in let w = both (p₁ .1) in let q = both (w .0) in let q₂ = both (q .1) in let q₃ = both (q₂ .1) in let q₄ = both
+            (q₃ .1) in let q₅ =
             both (q₄ .1) in
             and-true (and-true (and-true refl (q .0)) (and-true (q₂ .0) (and-true (q₃ .0) (and-true (q₄ .0) (and-true (and-true (v .0) (q₅ .0)) (q₅ .1)))))) (and-true (v .1) (w .1)))
 

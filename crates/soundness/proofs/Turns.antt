@@ -26,7 +26,8 @@ to-the-end n at b h = take-all n (drop at b) (rw (length-drop at b) (omega arith
 
 -- ---- a place
 
-pub place-bytes : (cat : Catalogue) (low : ℕ) (r : List ℕ) → length r ≡ place-length → place-test cat low r ≡ (leb low (key-in r) and entry-test cat (two r 0) (take place-width (drop key-length r)))
+pub place-bytes : (cat : Catalogue) (low : ℕ) (r : List ℕ) → length r ≡ place-length
+    → place-test cat low r ≡ (leb low (key-in r) and entry-test cat (two r 0) (take place-width (drop key-length r)))
 unfolding place-test
 place-bytes cat low r h = rw (to-the-end place-width key-length r (omega arith))
 

@@ -117,7 +117,8 @@ create-reply = 0 ∷ 1 ∷ 0x24 ∷ 0x0A ∷ 0 ∷ 45 ∷ 0 ∷ 1 ∷ replicate 
 pub create-fills-a-place :
     map (λ b. on (message create-bridge) b (room 50) .store) (small-store ∷ large-store ∷ [])
     ≡ laid 2 (1 ∷ take 40 create-bridge ++ create-reply) (laid 100 (1 ∷ 1 ∷ []) (laid 162 (0 ∷ 45 ∷ 0 ∷ 1 ∷ good-bridge) small-store))
-    ∷ laid 2 (1 ∷ take 40 create-bridge ++ create-reply) (laid 100 (1 ∷ 1 ∷ []) (laid 162 (0 ∷ 45 ∷ 0 ∷ 1 ∷ good-bridge ++ replicate 20 0 ++ 0x02 ∷ 0x00 ∷ 0x0F ∷ 0x00 ∷ []) large-store))
+    ∷ laid 2 (1 ∷ take 40 create-bridge ++ create-reply)
+    (laid 100 (1 ∷ 1 ∷ []) (laid 162 (0 ∷ 45 ∷ 0 ∷ 1 ∷ good-bridge ++ replicate 20 0 ++ 0x02 ∷ 0x00 ∷ 0x0F ∷ 0x00 ∷ []) large-store))
     ∷ []
 unfolding computing-entries create-bridge create-reply
 create-fills-a-place = refl
@@ -163,7 +164,8 @@ computing-drops = 0
 
 -- the buffer is a byte short, and the message has every fault; the second store is a byte short too
 pub drop-1-leaves-store-and-buffer :
-    map (λ b. on (message (counter-get 47 0 0x09 0x0B 0x29)) b (room 47)) (small-store ∷ take 3343 small-store ∷ []) ≡ map (λ b. left-by-drop 1 b (room 47)) (small-store ∷ take 3343 small-store ∷ [])
+    map (λ b. on (message (counter-get 47 0 0x09 0x0B 0x29)) b (room 47)) (small-store ∷ take 3343 small-store ∷ []) ≡ map (λ b. left-by-drop 1 b (room 47))
+    (small-store ∷ take 3343 small-store ∷ [])
 unfolding computing-drops
 drop-1-leaves-store-and-buffer = refl
 
@@ -179,7 +181,8 @@ drop-2-of-a-short-store = refl
 -- byte of a UNI that isn't there; the first and the last byte of the unused places; an upload marked 2; its last byte.
 unfoldable pub damages : List (List ℕ)
 damages = map (λ (e : ℕ × ℕ). laid (e .0) (e .1 ∷ []) small-store) (
-    (0, 0) ∷ (0, 255) ∷ (2, 2) ∷ (91, 0x40) ∷ (92, 0x80) ∷ (95, 2) ∷ (101, 1) ∷ (101, 41) ∷ (106, 2) ∷ (108, 1) ∷ (117, 1) ∷ (162, 1) ∷ (1721, 1) ∷ (1722, 2) ∷ (3343, 1) ∷ [])
+    (0, 0) ∷ (0, 255) ∷ (2, 2) ∷ (91, 0x40) ∷ (92, 0x80) ∷ (95, 2) ∷ (101, 1) ∷ (101, 41) ∷ (106, 2) ∷ (108, 1) ∷ (117, 1) ∷ (162, 1) ∷ (1721, 1) ∷ (1722, 2) ∷
+    (3343, 1) ∷ [])
 
 pub drop-2-of-a-damaged-store :
     map (λ b. on (message e12) b (room 50)) damages ≡ map (λ b. left-by-drop 2 b (room 50)) damages

@@ -36,9 +36,6 @@ not-placed k l h = nothing (position k l) (position-among k l ∙ h)
     nothing none e = refl
     nothing (some j) e = never (sym e)
 
-pub placed-nowhere : (k : ℕ) (l : List ℕ) → position k l ≡ none → among k l ≡ false
-placed-nowhere k l h = sym (position-among k l) ∙ ap is-some h
-
 -- what has a position stands there
 pub stands-at : (k j : ℕ) (l : List ℕ) → position k l ≡ some j → (j < length l) × (getD l j 0 ≡ k)
 unfolding position

@@ -37,7 +37,8 @@ memory-back r h =
 
 -- ---- the state
 
-pub read-back-front : (p : ℕ) (cat : Catalogue) (s : State) (rest : List ℕ) → WellFormed cat → fits cat ≡ true → legal-state cat s ≡ true → read-state cat (encode p cat s ++ rest) ≡ s
+pub read-back-front : (p : ℕ) (cat : Catalogue) (s : State) (rest : List ℕ) → WellFormed cat → fits cat ≡ true → legal-state cat s ≡ true
+    → read-state cat (encode p cat s ++ rest) ≡ s
 unfolding read-state parts legal-state
 read-back-front p cat s rest w f h =
     let a = both h in

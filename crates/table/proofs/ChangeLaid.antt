@@ -145,7 +145,8 @@ module _ (cat : Catalogue) (wf : WellFormed cat) (ft : fits cat ≡ true) (t : T
     created-stays = at-absent (key (leader cat c) i) (at-key c wrote) (t .created) (cases (among (key (leader cat c) i) (keys (t .created)))
         (λ y.
         let f = find-some (key (leader cat c) i) (t .created) (has-among (key (leader cat c) i) (t .created) ∙ y) in
-        true-false (rw (key-class (leader cat c) i lt, leads) at (every-find (λ k e. is-created (class cat (class-of k) .creation)) (t .created) (h .all-created) (key (leader cat c) i) (f .0) (f .1)))
+        true-false (rw (key-class (leader cat c) i lt, leads) at
+        (every-find (λ k e. is-created (class cat (class-of k) .creation)) (t .created) (h .all-created) (key (leader cat c) i) (f .0) (f .1)))
         auto)
         (λ y. y))
 

@@ -11,17 +11,17 @@ use lib.Seq.{drop-at, drop-cons, getD-at}
 use lib.Dec.{eqb}
 use Rattle.rules.specs.Maps.{_and_, Map, given, find, keys, every, among, gather}
 use Rattle.rules.specs.Bytes.{byte, two, number-from, number, bytes, fill}
-use Rattle.rules.specs.Catalogue.{Class, Catalogue, class, size-of, stored-numbers, is-created, leader, family, key, ont-data}
+use Rattle.rules.specs.Catalogue.{Catalogue, class, size-of, stored-numbers, is-created, leader, family, key, ont-data}
 use Rattle.rules.specs.State.{Contents, Entry, Table, class-of, number-of, entry, content, how-many-name}
 use Rattle.rules.specs.Legal.{legal-entry, automatic-keys}
 use Rattle.rules.specs.Walks.{frozen}
 use Rattle.rules.specs.WellFormed.{WellFormed}
 use Rattle.rules.proofs.Laws.{cases, both, eqb-eq, find-some, has-among}
-use Rattle.rules.proofs.MapLaws.{some-eq, none-some, each-find, length-gather}
+use Rattle.rules.proofs.MapLaws.{length-gather}
 use Rattle.rules.proofs.ByteLaws.{length-fill, fill-keeps}
 use Rattle.rules.proofs.Lookups.{created-known, leads-itself}
-use Rattle.rules.proofs.Families.{family-classes, family-has}
-use Rattle.store.specs.Layout.{ont-data-width, slots-length, place-width, place-length, places-length, entry-bytes, slot, place, code-table, contents-width, family-width, fits, key-length}
+use Rattle.store.specs.Layout.{ont-data-width, slots-length, place-width, place-length, places-length, entry-bytes, slot, place, code-table, family-width, fits}
+use Rattle.store.specs.Layout.{key-length}
 use Rattle.store.specs.Layout.{live-bytes, in-use-at, places-at}
 use Rattle.store.specs.Decode.{read-place, read-places}
 use Rattle.store.proofs.BytesBack.{two-back}
@@ -31,10 +31,9 @@ use Rattle.store.proofs.Widths.{created-found, places-are-enough, place-fits, c
 use Rattle.store.proofs.TablesBack.{place-has-its-length, is-place, places-back}
 use Rattle.store.proofs.Parts.{table-has-its-length}
 use Rattle.legality.proofs.Tables.{open-entry, LegalTable, LegalLive, frozen-legal}
-use Rattle.store.specs.Positions.{before, inside, offset}
+use Rattle.store.specs.Positions.{inside, offset}
 use Rattle.table.specs.Places.{InShape, place-keys, keys-in, one-holds, how-many-hold}
 use Rattle.octets.proofs.Parted.{part, part-behind, part-before, part-fill}
-use Rattle.table.proofs.ContentsLaid.{offset-fits}
 use Rattle.table.proofs.TableRead.{fronted, InEntry, in-entry}
 
 pub keys-of-places : (cat : Catalogue) (n : ℕ) (b : List ℕ) → keys (read-places cat n b) ≡ place-keys n b
@@ -67,30 +66,9 @@ number-shown d a o k e rest r v fr fv shown room fit =
 
 -- ---- where an attribute of a created class stands in its place
 
--- the contents of a class lie within the width of its family
-before-fits : (fam : Map Class) (c : ℕ) (k : Class) → find c fam ≡ some k → before fam c + contents-width k ≤ family-width fam
-unfolding find before family-width
-before-fits [] c k f = none-some f
-before-fits (e ∷ m) c k f = cases (eqb c (e .0))
-    (λ t. let y : e .1 ≡ k = some-eq (rw t at f) in rw (t, y) (omega arith))
-    (λ t. let z : before m c + contents-width k ≤ family-width m = before-fits m c k (rw t at f) in rw t (omega arith))
-
 -- where the contents of attribute a of class d begin, behind the place's class and number
 abbrev pub in-place : Catalogue → ℕ → ℕ → ℕ
 in-place cat d a = inside cat d + offset (size-of (class cat d)) (stored-numbers (class cat d)) a
-
-module _ (cat : Catalogue) (wf : WellFormed cat) (ft : fits cat ≡ true) (d a : ℕ) (st : among a (stored-numbers (class cat d)) ≡ true) where
-  pub in-place-fits : is-created (class cat d .creation) ≡ true → in-place cat d a + size-of (class cat d) a ≤ place-width
-  unfolding contents-width
-  in-place-fits cr =
-      let leads : leader cat d ≡ d = leads-itself d (class cat d .creation) cr in
-      let fam : Map Class = family cat (leader cat d) in
-      let f = find-some d fam (has-among d fam ∙ family-has cat wf d (created-known cat d cr)) in
-      let k : class cat d ≡ f .0 = each-find (λ c k. class cat c ≡ k) fam (family-classes cat wf (leader cat d)) d (f .0) (f .1) in
-      let w : before fam d + contents-width (class cat d) ≤ family-width fam = before-fits fam d (class cat d) (f .1 ∙ ap some (sym k)) in
-      let o = offset-fits (size-of (class cat d)) (stored-numbers (class cat d)) a st in
-      let p : family-width fam ≤ place-width = rw leads (place-fits cat ft wf d cr) in
-      omega arith
 
 -- ---- a table without class 2, with any byte in front
 
@@ -200,9 +178,3 @@ module _ (cat : Catalogue) (wf : WellFormed cat) (ft : fits cat ≡ true) (t : T
   pub live-keys : keys-in (live-bytes t) ≡ keys (t .created)
   unfolding frozen
   live-keys = rw (is-fronted t) (keys-read cat wf ft (frozen t) (frozen-legal cat wf t h) (front t) (one-byte t))
-
-  -- attribute a of class d is stored in two bytes
-  pub live-naming : (d a i : ℕ) → among a (stored-numbers (class cat d)) ≡ true → size-of (class cat d) a ≡ 2
-      → how-many-hold d (in-place cat d a) i (length (t .created)) (drop (places-at) (live-bytes t)) ≡ how-many-name d a i (t .created)
-  unfolding frozen
-  live-naming d a i st z = rw (is-fronted t) (naming-read cat wf ft (frozen t) (frozen-legal cat wf t h) (front t) (one-byte t) d a i st z)

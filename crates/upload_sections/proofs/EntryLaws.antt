@@ -66,7 +66,8 @@ module _ (pr : Product) (b : List ℕ) where
         let lk = entries-length in
         let small : 0 + j < byte b in-use-at = omega arith in
         let o : 0 + j ≡ j = omega arith in
-        let there : getD (keys-in b) j 0 ≡ key-of b j = ap (λ (k : List ℕ). getD k j 0) (sym (keys-start b (byte b in-use-at) refl)) ∙ key-from b (byte b in-use-at) j 0 small ∙ ap (key-of b) o in
+        let there : getD (keys-in b) j 0 ≡ key-of b j = ap (λ (k : List ℕ). getD k j 0) (sym (keys-start b (byte b in-use-at) refl)) ∙ key-from b (byte b in-use-at) j 0 small
+        ∙ ap (key-of b) o in
         let k : getD all-keys i 0 ≡ key-of b j =
         ap (λ (x : ℕ). getD all-keys x 0) z ∙ getD-append-add (automatic-keys (cat-of pr)) (keys-in b) j 0 ∙ there in
         told (ap (λ (x : ℕ). key x m) p ∙ ap (key (two b (place-at j))) q ∙ sym k)

@@ -1,6 +1,7 @@
 use Rattle.class_tables.specs.Built.{cat-of}
 use Rattle.sound_store.specs.Held.{state-in}
-use Rattle.command_dispatch.proofs.Answers.{number-is, by-all-alarms, by-alarms-next, by-upload, by-upload-next, not-a-walk, named-so, upload-next-keeps, alarms-next-keeps}
+use Rattle.command_dispatch.proofs.Answers.{number-is, by-all-alarms, by-alarms-next, by-upload, by-upload-next, not-a-walk, named-so, upload-next-keeps}
+use Rattle.command_dispatch.proofs.Answers.{alarms-next-keeps}
 use Rattle.sound_store.proofs.Held.{only-says}
 use borrow.Author.Needs.{needs}
 use Rattle.command_dispatch.proofs.perform.Statement.{statement}

@@ -55,7 +55,11 @@ loop-again c =
     ⊎-elim
     (λ w. omega (arith, hold-here (a .b .now) (a .class) (a .at) (a .number) (l .before .in-use .result) (l .loop .i) (omega arith) (sym p ∙ w .0 .taken) (sym (w .1 .ensures) ∙ w .2 .taken)))
     (λ v. ⊎-elim
-    (λ w. omega (arith, other-number (a .b .now) (a .class) (a .at) (a .number) (l .before .in-use .result) (l .loop .i) (omega arith) (sym p ∙ w .0 .taken) (λ q. w .2 .left (w .1 .ensures ∙ q))))
+    (λ w. omega (
+      arith,
+      other-number (a .b .now) (a .class) (a .at) (a .number) (l .before .in-use .result) (l .loop .i) (omega arith) (sym p ∙ w .0 .taken)
+          (λ q. w .2 .left (w .1 .ensures ∙ q)),
+    ))
     (λ w. omega (arith, other-class (a .b .now) (a .class) (a .at) (a .number) (l .before .in-use .result) (l .loop .i) (omega arith) (λ q. w .0 .left (p ∙ q))))
     v)
     (c .if1 .came)
