@@ -19,7 +19,7 @@ use Rattle.class_tables.specs.declared.Attribute.{Attribute}
 use Rattle.class_tables.specs.declared.Verdict.{Verdict}
 use Rattle.class_tables.specs.declared.Verdict.the-variants.{Fine, Bad, Asks}
 use Rattle.class_tables.specs.Meaning.{rule-of, meaning}
-use Rattle.class_tables.specs.Judged.{verdict-of, Judged}
+use Rattle.attribute_tables.specs.Judged.{verdict-of, Judged}
 use Rattle.table.specs.Live.{there-in}
 use Rattle.attribute_check.specs.Judges.{is-in, value-of, looked-at, Judgeable}
 

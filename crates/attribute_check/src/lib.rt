@@ -1,10 +1,9 @@
 // Is a content legal, and which of several aren't?
+use attribute_tables::judge;
 use class_tables::Attribute;
 use class_tables::Product;
 use class_tables::Rule;
 use class_tables::Verdict;
-use class_tables::attributes;
-use class_tables::judge;
 use table::instances;
 ghost use mathlib.Core.Path.{_≡_};
 ghost use Prim.Native.Nat.{_+_, _≤_};
@@ -45,7 +44,7 @@ fn condition_of(a: Attribute, product: Product, class: u16, own: &[u8], at: usiz
             if only_if == 0 {
                 return 0;
             }
-            let b = attributes::attribute_of(product, class, only_if);
+            let b = attribute_tables::attribute_of(product, class, only_if);
             octets::wide(own[at + b.at])
         }
     }
@@ -93,7 +92,7 @@ pub fn bad_mask(
     let mut bad = 0;
     while left != 0 {
         let n = bits::first_named(left);
-        let a = attributes::attribute_of(product, class, n);
+        let a = attribute_tables::attribute_of(product, class, n);
         let to = from + a.size;
         let bit = bits::bit_of(n);
         if !is_legal(live, product, class, a, &v[from..to], own, at) {

@@ -1,7 +1,6 @@
 // The contents of attributes, read out of the bytes of a table: the live one, or the frozen copy of an upload.
 use class_tables::Product;
 use class_tables::Way;
-use class_tables::attributes;
 use class_tables::classes;
 use table::Which;
 ghost use mathlib.Core.Path.{_≡_};
@@ -45,7 +44,7 @@ fn in_entry(product: Product, class: u16, n: u16) -> usize
     requires { ⌜ (supported (class-for product class) n ≡ true) × (is-stored (attribute (class-for product class) n .source) ≡ true) ⌝ }
     ensures { λ r. ⌜ r ≡ in-entry (cat-of product) class n ⌝ }
 {
-    let a = attributes::attribute_of(product, class, n);
+    let a = attribute_tables::attribute_of(product, class, n);
     classes::inside(product, class) + a.at
 }
 
@@ -54,7 +53,7 @@ fn item_for(product: Product, class: u16, n: u16, at: usize) -> Item
     requires { ⌜ Within (cat-of product) class at × (supported (class-for product class) n ≡ true) ⌝ }
     ensures { λ r. ⌜ r ≡ item-of (cat-of product) class at n ⌝ }
 {
-    let a = attributes::attribute_of(product, class, n);
+    let a = attribute_tables::attribute_of(product, class, n);
     let size = a.size;
     let way = a.way;
     match way {

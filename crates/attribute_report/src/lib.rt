@@ -3,7 +3,6 @@ use class_tables::Attribute;
 use class_tables::Found;
 use class_tables::Product;
 use class_tables::Rights;
-use class_tables::attributes;
 use outcome::Outcome;
 use store::layout::LIVE_AT;
 use store::layout::LIVE_END;
@@ -117,7 +116,7 @@ pub fn report_attribute(
     let found = instances::locate(&store[LIVE_AT..LIVE_END], product, class, number);
     match found {
         Found::At(spot) => {
-            let a = attributes::attribute_of(product, class, n);
+            let a = attribute_tables::attribute_of(product, class, n);
             let code = content_drop(&store[LIVE_AT..LIVE_END], product, class, a, content, spot);
             if code != 0 {
                 return Outcome::Dropped(code);

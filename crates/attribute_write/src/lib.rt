@@ -1,7 +1,6 @@
 // Values laid into an instance's contents in the bytes of a table, one attribute after another.
 use class_tables::Product;
 use class_tables::Way;
-use class_tables::attributes;
 use class_tables::classes;
 ghost use mathlib.Core.Path.{_≡_};
 ghost use mathlib.Core.List.{[], _∷_};
@@ -24,7 +23,7 @@ pub fn lay_values(b: &mut [u8], at: usize, product: Product, class: u16, asked: 
     let mut from = 0;
     while left != 0 {
         let n = bits::first_named(left);
-        let a = attributes::attribute_of(product, class, n);
+        let a = attribute_tables::attribute_of(product, class, n);
         let end = from + a.size;
         octets::copy_in(b, at + a.at, &v[from..end]);
         from = end;
@@ -52,13 +51,13 @@ fn lay_first(b: &mut [u8], at: usize, product: Product, class: u16, n: u16, from
     ensures { λ _. ⌜ now (b .exit)
         ≡ laid-values (class-for product class) at (firsts (class-for product class) (leading-class product class) (now (from .entry)) (n ∷ [])) (now (b .entry)) ⌝ }
 {
-    let a = attributes::attribute_of(product, class, n);
+    let a = attribute_tables::attribute_of(product, class, n);
     let way = a.way;
     let place = at + a.at;
     match way {
         Way::First(x) => put_bytes(b, place, a.size, x),
         Way::Copied(m) => {
-            let s = attributes::attribute_of(product, classes::leader_of(product, class), m);
+            let s = attribute_tables::attribute_of(product, classes::leader_of(product, class), m);
             let start = s.at;
             let end = start + a.size;
             octets::copy_in(b, place, &from[start..end]);

@@ -3,7 +3,6 @@ use super::names::put_attribute;
 use super::reads::behind;
 use super::reads::part;
 use class_tables::Product;
-use class_tables::attributes;
 use text_buffer::text::put;
 use text_buffer::text::put_bytes;
 
@@ -56,7 +55,7 @@ fn size_in(class: u16, mask: u16, n: u8) -> usize {
     if !names(mask, n) {
         return 0;
     }
-    let a = attributes::attribute_of(Product::Large, class, n as u16);
+    let a = attribute_tables::attribute_of(Product::Large, class, n as u16);
     a.size
 }
 

@@ -4,7 +4,6 @@ pub mod ClassLaws
 pub mod Facts
 pub mod Tables
 pub mod SlotLaws
-pub mod Judging
 pub mod Views
 pub mod Offsets
 pub mod MaskLaws

@@ -5,5 +5,4 @@ pub mod Describes
 pub mod Families
 pub mod Masks
 pub mod Finding
-pub mod Judged
 pub mod Computing

@@ -1,9 +1,7 @@
 // What the engine knows of a class, as tables: the products' catalogues as code. Beside it only `class_tests` has a branch for a class or
 // a product: the straight-line tests of a whole store's contents.
-pub mod attributes;
 pub mod built;
 pub mod classes;
-pub mod judge;
 pub mod masks;
 pub mod slots;
 

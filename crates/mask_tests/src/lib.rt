@@ -1,6 +1,5 @@
 // The mask of a Set or a Get, weighed against what its class has.
 use class_tables::Product;
-use class_tables::attributes;
 use class_tables::masks;
 ghost use mathlib.Core.Path.{_≡_};
 ghost use Rattle.rules.specs.Masks.{named, mask, total};
@@ -32,7 +31,7 @@ pub fn total_size(product: Product, class: u16, asked: u16) -> usize
     let mut sum = 0;
     while left != 0 {
         let n = bits::first_named(left);
-        let a = attributes::attribute_of(product, class, n);
+        let a = attribute_tables::attribute_of(product, class, n);
         sum += a.size;
         left -= bits::bit_of(n);
     }

@@ -13,7 +13,7 @@ use Rattle.attribute_check.proofs.bad_mask.Reads as reads
 use Rattle.attribute_check.proofs.bad_mask.Lts as lts
 use Rattle.bits.proofs.bit_of.Reads as bit-of-reads
 use Rattle.bits.proofs.first_named.Reads as first-named-reads
-use Rattle.class_tables.proofs.attributes.attribute_of.Reads as attribute-of-reads
+use Rattle.attribute_tables.proofs.attribute_of.Reads as attribute-of-reads
 use Rattle.attribute_check.proofs.is_legal.Reads as is-legal-reads
 use Rattle.class_tables.proofs.Tables.{described}
 use Rattle.attribute_check.proofs.Looking.{judgeable, by-its-line}

@@ -5,7 +5,7 @@ use Rattle.attribute_check.proofs.condition_of.Statement.{statement}
 use Rattle.attribute_check.proofs.condition_of.Tie as tie
 use Rattle.attribute_check.proofs.condition_of.Reads as reads
 use Rattle.attribute_check.proofs.condition_of.Lts as lts
-use Rattle.class_tables.proofs.attributes.attribute_of.Reads as attribute-of-reads
+use Rattle.attribute_tables.proofs.attribute_of.Reads as attribute-of-reads
 use Rattle.octets.proofs.wide.Reads as wide-reads
 use Rattle.class_tables.proofs.Tables.{described}
 use native.Mathlib.Omega.{arith}

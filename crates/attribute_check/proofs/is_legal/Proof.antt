@@ -7,8 +7,8 @@ use Rattle.attribute_check.proofs.is_legal.Statement.{statement}
 use Rattle.attribute_check.proofs.is_legal.Tie as tie
 use Rattle.attribute_check.proofs.is_legal.Reads as reads
 use Rattle.attribute_check.proofs.is_legal.Lts as lts
-use Rattle.class_tables.proofs.attributes.attribute_of.Reads as attribute-of-reads
-use Rattle.class_tables.proofs.judge.judge.Reads as judge-reads
+use Rattle.attribute_tables.proofs.attribute_of.Reads as attribute-of-reads
+use Rattle.attribute_tables.proofs.judge.judge.Reads as judge-reads
 use Rattle.table.proofs.instances.is_there.Reads as is-there-reads
 use Rattle.attribute_check.proofs.condition_of.Reads as condition-of-reads
 use Rattle.attribute_check.proofs.value_in.Reads as value-in-reads

@@ -6,7 +6,7 @@ use Rattle.attribute_read.proofs.in_entry.Statement.{statement}
 use Rattle.attribute_read.proofs.in_entry.Tie as tie
 use Rattle.attribute_read.proofs.in_entry.Reads as reads
 use Rattle.attribute_read.proofs.in_entry.Lts as lts
-use Rattle.class_tables.proofs.attributes.attribute_of.Reads as attribute-of-reads
+use Rattle.attribute_tables.proofs.attribute_of.Reads as attribute-of-reads
 use Rattle.class_tables.proofs.classes.inside.Reads as inside-reads
 use Rattle.class_tables.proofs.Tables.{described}
 

@@ -7,7 +7,7 @@ use Rattle.attribute_read.proofs.item_for.Statement.{statement}
 use Rattle.attribute_read.proofs.item_for.Tie as tie
 use Rattle.attribute_read.proofs.item_for.Reads as reads
 use Rattle.attribute_read.proofs.item_for.Lts as lts
-use Rattle.class_tables.proofs.attributes.attribute_of.Reads as attribute-of-reads
+use Rattle.attribute_tables.proofs.attribute_of.Reads as attribute-of-reads
 use Rattle.class_tables.proofs.classes.inside.Reads as inside-reads
 use Rattle.class_tables.proofs.classes.leader_of.Reads as leader-of-reads
 use Rattle.attribute_read.proofs.in_entry.Reads as in-entry-reads

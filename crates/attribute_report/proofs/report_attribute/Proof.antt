@@ -13,7 +13,7 @@ use Rattle.attribute_report.proofs.report_attribute.Lts as lts
 use Rattle.attribute_report.proofs.content_drop.Reads as content-drop-reads
 use Rattle.attribute_report.proofs.notify.Reads as notify-reads
 use Rattle.attribute_report.proofs.write.Reads as write-reads
-use Rattle.class_tables.proofs.attributes.attribute_of.Reads as attribute-of-reads
+use Rattle.attribute_tables.proofs.attribute_of.Reads as attribute-of-reads
 use Rattle.table.proofs.instances.locate.Reads as locate-reads
 use borrow.Author.Needs.{needs}
 

@@ -11,7 +11,7 @@ use Rattle.mask_tests.proofs.total_size.Reads as reads
 use Rattle.mask_tests.proofs.total_size.Lts as lts
 use Rattle.bits.proofs.bit_of.Reads as bit-of-reads
 use Rattle.bits.proofs.first_named.Reads as first-named-reads
-use Rattle.class_tables.proofs.attributes.attribute_of.Reads as attribute-of-reads
+use Rattle.attribute_tables.proofs.attribute_of.Reads as attribute-of-reads
 use Rattle.class_tables.proofs.Tables.{described}
 
 abbrev Inv-loop : tie.InvT-loop
