@@ -25,15 +25,6 @@ its-slot : (c : lts.After-slot-of
     → let a = c .before .before .before .args in position (key (a .class) (a .number)) (automatic-keys (cat-of (a .product))) ≡ found-of f
 its-slot c e = sym (c .slot-of .ensures) ∙ ap found-of e
 
-slot-of-requires : tie.Need-slot-of-requires
-slot-of-requires c κs = search needs
-
-enum-known-slot : tie.Need-enum-known-slot
-enum-known-slot c = search needs
-
-alarm-declared-requires : tie.Need-alarm-declared-requires
-alarm-declared-requires c κs = search needs
-
 returns : tie.Need-returns
 returns c =
     let found = c .before .before .before in
@@ -54,28 +45,10 @@ turn-in-requires c κs =
     let small = declared-small (a .product) (a .class) (a .alarm) (sym (c .before .before .before .alarm-declared .ensures) ∙ not-false (c .before .before .if1 .left)) in
     (z, in-slots (a .product) _ _ slot, small, search needs)
 
-enum-told : tie.Need-enum-told
-enum-told c = search needs
-
-sub-is-there : tie.Need-sub-is-there
-sub-is-there c = search needs
-
-part-is-there-start : tie.Need-part-is-there-start
-part-is-there-start c = search needs
-
-part-is-there-end : tie.Need-part-is-there-end
-part-is-there-end c = search needs
-
 is-there-requires : tie.Need-is-there-requires
 is-there-requires c κs =
     let f = c .before .before .before .before .before .before .before in
     live-shaped (f .args .product) (f .args .store .now) (f .pre .0)
-
-same-length : tie.Need-same-length
-same-length c = search needs
-
-same-length-2 : tie.Need-same-length-2
-same-length-2 c = search needs
 
 returns-2 : tie.Need-returns-2
 returns-2 c =
@@ -88,9 +61,6 @@ returns-2 c =
     let declared = sym (asked .before .alarm-declared .ensures) ∙ not-false (asked .if1 .left) in
     as-reported (a .product) (a .store .now) (f .pre .0) (a .reply .now) (a .class) (a .number) (a .alarm) (a .on) (f .fits .number .fits) declared _ slot _ (at-turn-in .turn-in .ensures)
 
-same-length-3 : tie.Need-same-length-3
-same-length-3 c = search needs
-
 returns-3 : tie.Need-returns-3
 returns-3 c =
     let at-enum-told = c .before .before .before .before in
@@ -100,9 +70,6 @@ returns-3 c =
     let there = told-there (a .product) (a .store .now) (f .pre .0) (a .reply .now) (a .class) (a .number) (a .alarm) (a .on) (f .fits .number .fits) (c .before .is-there .ensures) (c .if2 .taken) in
     no-slot-12 (a .product) (a .store .now) (f .pre .0) (a .reply .now) (a .class) (a .number) (a .alarm) (a .on) (f .fits .number .fits) there
     (sym (its-slot at-slot-of (at-enum-told .enum-told .given .1)))
-
-same-length-4 : tie.Need-same-length-4
-same-length-4 c = search needs
 
 returns-4 : tie.Need-returns-4
 returns-4 c =
@@ -115,20 +82,20 @@ pub report-alarm-spec : {M : Type 1} → statement M
 report-alarm-spec =
     tie.close
     (tie.spec
-    slot-of-requires
-    enum-known-slot
-    alarm-declared-requires
+    (λ c κs. search needs)
+    (λ c. search needs)
+    (λ c κs. search needs)
     returns
     turn-in-requires
-    enum-told
-    sub-is-there
-    part-is-there-start
-    part-is-there-end
+    (λ c. search needs)
+    (λ c. search needs)
+    (λ c. search needs)
+    (λ c. search needs)
     is-there-requires
-    same-length
-    same-length-2
+    (λ c. search needs)
+    (λ c. search needs)
     returns-2
-    same-length-3
+    (λ c. search needs)
     returns-3
-    same-length-4
+    (λ c. search needs)
     returns-4)

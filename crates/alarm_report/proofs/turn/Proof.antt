@@ -10,27 +10,12 @@ use Rattle.alarm_report.proofs.turn.Lts as lts
 use Rattle.bits.proofs.alarm_on.Reads as alarm-on-reads
 use Rattle.bits.proofs.alarm_turned.Reads as alarm-turned-reads
 
-slice-read-was : tie.Need-slice-read-was
-slice-read-was c = search needs
-
-alarm-on-requires : tie.Need-alarm-on-requires
-alarm-on-requires c κs = search needs
-
 returns : tie.Need-returns
 returns c =
     let f = c .before .before .before .before in
     let a = f .args in
     let o = c .before .alarm-on in
     (turned-not (byte (a .alarms .now) (a .slot)) (a .alarm) (a .on) (o .result) (o .ensures) (c .if1 .taken), refl)
-
-alarm-turned-requires : tie.Need-alarm-turned-requires
-alarm-turned-requires c κs = search needs
-
-slice-write-alarms : tie.Need-slice-write-alarms
-slice-write-alarms c = search needs
-
-same-length : tie.Need-same-length
-same-length c = search needs
 
 returns-2 : tie.Need-returns-2
 returns-2 c =
@@ -46,10 +31,10 @@ pub turn-spec : {M : Type 1} → statement M
 turn-spec =
     tie.close
     (tie.spec
-    slice-read-was
-    alarm-on-requires
+    (λ c. search needs)
+    (λ c κs. search needs)
     returns
-    alarm-turned-requires
-    slice-write-alarms
-    same-length
+    (λ c κs. search needs)
+    (λ c. search needs)
+    (λ c. search needs)
     returns-2)

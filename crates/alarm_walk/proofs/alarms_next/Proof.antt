@@ -15,17 +15,11 @@ use Rattle.class_tables.proofs.slots.slot_instance.Reads as slot-instance-reads
 use Rattle.class_tables.proofs.slots.slots.Reads as slots-reads
 use Rattle.octets.proofs.number_at.Reads as number-at-reads
 
-is-ont-data-requires : tie.Need-is-ont-data-requires
-is-ont-data-requires c κs = search needs
-
 returns : tie.Need-returns
 returns c =
     let f = c .before .before .before .before .before in
     let a = f .args in
     nothing-asked (a .product) (a .store .now) (f .pre .0) (a .class) (a .number) (a .v .now) (a .out .now) (sym (c .before .is-ont-data .ensures) ∙ not-true (c .if1 .taken)) (f .pre .2)
-
-shared-slice-read-if2 : tie.Need-shared-slice-read-if2
-shared-slice-read-if2 c = search needs
 
 returns-2 : tie.Need-returns-2
 returns-2 c =
@@ -34,17 +28,8 @@ returns-2 c =
     let asked = sym (c .before .before .before .is-ont-data .ensures) ∙ not-false (c .before .before .if1 .left) in
     nothing-walked (a .product) (a .store .now) (f .pre .0) (a .class) (a .number) (a .v .now) asked (a .out .now) (c .if2 .taken) (f .pre .2)
 
-slots-requires : tie.Need-slots-requires
-slots-requires c κs = search needs
-
 add-e : tie.Need-add-e
 add-e c = let m = few-slots (c .before .before .before .before .before .before .before .before .args .product) in search needs
-
-sub-nth-on : tie.Need-sub-nth-on
-sub-nth-on c = search needs
-
-part-nth-on-start : tie.Need-part-nth-on-start
-part-nth-on-start c = search needs
 
 part-nth-on-end : tie.Need-part-nth-on-end
 part-nth-on-end c =
@@ -52,15 +37,6 @@ part-nth-on-end c =
     let m = few-slots (f .args .product) in
     let z = f .pre .0 .long in
     search needs
-
-number-at-requires : tie.Need-number-at-requires
-number-at-requires c κs = search needs
-
-nth-on-requires : tie.Need-nth-on-requires
-nth-on-requires c κs = search needs
-
-slot-instance-requires : tie.Need-slot-instance-requires
-slot-instance-requires c κs = search needs
 
 add-show : tie.Need-add-show
 add-show c = let m = few-slots (c .before .before .before .before .before .before .before .before .before .before .before .before .before .before .args .product) in search needs
@@ -71,12 +47,6 @@ shared-slice-read-show c =
     let m = few-slots (f .args .product) in
     let z = f .pre .0 .long in
     search needs
-
-show-requires : tie.Need-show-requires
-show-requires c κs = search needs
-
-same-length : tie.Need-same-length
-same-length c = search needs
 
 returns-3 : tie.Need-returns-3
 returns-3 c =
@@ -106,21 +76,21 @@ pub alarms-next-spec : {M : Type 1} → statement M
 alarms-next-spec =
     tie.close
     (tie.spec
-    is-ont-data-requires
+    (λ c κs. search needs)
     returns
-    shared-slice-read-if2
+    (λ c. search needs)
     returns-2
-    slots-requires
+    (λ c κs. search needs)
     add-e
-    sub-nth-on
-    part-nth-on-start
+    (λ c. search needs)
+    (λ c. search needs)
     part-nth-on-end
-    number-at-requires
-    nth-on-requires
-    slot-instance-requires
+    (λ c κs. search needs)
+    (λ c κs. search needs)
+    (λ c κs. search needs)
     add-show
     shared-slice-read-show
-    show-requires
-    same-length
+    (λ c κs. search needs)
+    (λ c. search needs)
     returns-3
     returns-4)

@@ -16,26 +16,14 @@ use Rattle.class_tables.proofs.slots.slots.Reads as slots-reads
 use Rattle.octets.proofs.freeze.Reads as freeze-reads
 use Rattle.octets.proofs.put_number.Reads as put-number-reads
 
-is-ont-data-requires : tie.Need-is-ont-data-requires
-is-ont-data-requires c κs = search needs
-
 returns : tie.Need-returns
 returns c =
     let f = c .before .before .before .before in
     let a = f .args in
     nothing-frozen (a .product) (a .store .now) (f .pre .0) (a .class) (a .number) (a .out .now) (sym (c .before .is-ont-data .ensures) ∙ not-true (c .if1 .taken)) (f .pre .1)
 
-slots-requires : tie.Need-slots-requires
-slots-requires c κs = search needs
-
 add-e : tie.Need-add-e
 add-e c = let m = few-slots (c .before .before .before .before .before .args .product) in search needs
-
-sub-how-many-on : tie.Need-sub-how-many-on
-sub-how-many-on c = search needs
-
-part-how-many-on-start : tie.Need-part-how-many-on-start
-part-how-many-on-start c = search needs
 
 part-how-many-on-end : tie.Need-part-how-many-on-end
 part-how-many-on-end c =
@@ -48,9 +36,6 @@ how-many-on-requires : tie.Need-how-many-on-requires
 how-many-on-requires c κs =
     let m = few-slots (c .before .before .before .before .before .before .before .args .product) in
     simp length-take (search needs)
-
-slice-write-store : tie.Need-slice-write-store
-slice-write-store c = search needs
 
 freeze-requires : tie.Need-freeze-requires
 freeze-requires c κs =
@@ -68,9 +53,6 @@ same-length c =
     let f = c .before .before .before .before .before .before .before .before .before .before .before .before .before .before .before .before in
     length-frozen (f .args .product) (f .args .store .now) (f .pre .0) (c .before .before .before .before .before .before .freeze .ensures)
 
-same-length-2 : tie.Need-same-length-2
-same-length-2 c = search needs
-
 returns-2 : tie.Need-returns-2
 returns-2 c =
     let at-put-number = c .before .before in
@@ -87,17 +69,17 @@ pub all-alarms-spec : {M : Type 1} → statement M
 all-alarms-spec =
     tie.close
     (tie.spec
-    is-ont-data-requires
+    (λ c κs. search needs)
     returns
-    slots-requires
+    (λ c κs. search needs)
     add-e
-    sub-how-many-on
-    part-how-many-on-start
+    (λ c. search needs)
+    (λ c. search needs)
     part-how-many-on-end
     how-many-on-requires
-    slice-write-store
+    (λ c. search needs)
     freeze-requires
     put-number-requires
     same-length
-    same-length-2
+    (λ c. search needs)
     returns-2)

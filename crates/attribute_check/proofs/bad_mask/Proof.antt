@@ -27,26 +27,11 @@ abbrev μ-loop : tie.MeasureT-loop
 loop-holds : tie.Need-loop-holds Inv-loop μ-loop
 loop-holds c = nothing-marked _ _ _ _ _ _ (c .before .before .before .pre .1)
 
-first-named-requires : tie.Need-first-named-requires Inv-loop μ-loop
-first-named-requires c κs = search needs
-
-attribute-of-requires : tie.Need-attribute-of-requires Inv-loop μ-loop
-attribute-of-requires c κs = search needs
-
 add-to : tie.Need-add-to Inv-loop μ-loop
 add-to c =
     let l = c .before .before .before .before .loop in
     let z = part-room _ _ _ _ (l .inv) (c .before .before .first-named .ensures) (size-is (described (c .before .attribute-of .ensures))) in
     omega arith
-
-bit-of-requires : tie.Need-bit-of-requires Inv-loop μ-loop
-bit-of-requires c κs = search needs
-
-sub-is-legal : tie.Need-sub-is-legal Inv-loop μ-loop
-sub-is-legal c = search needs
-
-part-is-legal-start : tie.Need-part-is-legal-start Inv-loop μ-loop
-part-is-legal-start c = search needs
 
 part-is-legal-end : tie.Need-part-is-legal-end Inv-loop μ-loop
 part-is-legal-end c =
@@ -100,12 +85,12 @@ bad-mask-spec =
     Inv-loop
     μ-loop
     loop-holds
-    first-named-requires
-    attribute-of-requires
+    (λ c κs. search needs)
+    (λ c κs. search needs)
     add-to
-    bit-of-requires
-    sub-is-legal
-    part-is-legal-start
+    (λ c κs. search needs)
+    (λ c. search needs)
+    (λ c. search needs)
     part-is-legal-end
     is-legal-requires
     add-bad

@@ -10,24 +10,6 @@ use Rattle.octets.proofs.wide.Reads as wide-reads
 use Rattle.class_tables.proofs.Tables.{described}
 use native.Mathlib.Omega.{arith}
 
-enum-told : tie.Need-enum-told
-enum-told c = search needs
-
-enum-told-2 : tie.Need-enum-told-2
-enum-told-2 c = search needs
-
-enum-told-3 : tie.Need-enum-told-3
-enum-told-3 c = search needs
-
-enum-told-4 : tie.Need-enum-told-4
-enum-told-4 c = search needs
-
-returns : tie.Need-returns
-returns c = search needs
-
-attribute-of-requires : tie.Need-attribute-of-requires
-attribute-of-requires c κs = search needs
-
 add-wide : tie.Need-add-wide
 add-wide c = let z = described (c .before .attribute-of .ensures) .near in omega arith
 
@@ -37,18 +19,6 @@ shared-slice-read-wide c =
     let k = c .before .before .before .before .enum-told4 .given in
     looked-room (class-for (e .args .product) (e .args .class)) (e .args .a .«only_if») (e .args .own .now) (e .args .at)
     (e .pre .0 .looks (k .0 .0) (k .1) (c .before .before .before .if1 .left)) (e .pre .1) (described (c .before .before .attribute-of .ensures))
-
-wide-requires : tie.Need-wide-requires
-wide-requires c κs = search needs
-
-returns-2 : tie.Need-returns-2
-returns-2 c = search needs
-
-returns-3 : tie.Need-returns-3
-returns-3 c = search needs
-
-returns-4 : tie.Need-returns-4
-returns-4 c = search needs
 
 returns-5 : tie.Need-returns-5
 returns-5 c =
@@ -62,16 +32,16 @@ pub condition-of-spec : {M : Type 1} → statement M
 condition-of-spec =
     tie.close
     (tie.spec
-    enum-told
-    enum-told-2
-    enum-told-3
-    enum-told-4
-    returns
-    attribute-of-requires
+    (λ c. search needs)
+    (λ c. search needs)
+    (λ c. search needs)
+    (λ c. search needs)
+    (λ c. search needs)
+    (λ c κs. search needs)
     add-wide
     shared-slice-read-wide
-    wide-requires
-    returns-2
-    returns-3
-    returns-4
+    (λ c κs. search needs)
+    (λ c. search needs)
+    (λ c. search needs)
+    (λ c. search needs)
     returns-5)

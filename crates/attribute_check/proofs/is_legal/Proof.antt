@@ -16,24 +16,6 @@ use Rattle.attribute_check.proofs.value_in.Reads as value-in-reads
 condition-of-requires : tie.Need-condition-of-requires
 condition-of-requires c κs = let e = c .before .before .before in (e .pre .1, e .pre .3)
 
-value-in-requires : tie.Need-value-in-requires
-value-in-requires c κs = search needs
-
-judge-requires : tie.Need-judge-requires
-judge-requires c κs = search needs
-
-enum-told : tie.Need-enum-told
-enum-told c = search needs
-
-enum-told-2 : tie.Need-enum-told-2
-enum-told-2 c = search needs
-
-enum-known-verdict : tie.Need-enum-known-verdict
-enum-known-verdict c = search needs
-
-is-there-requires : tie.Need-is-there-requires
-is-there-requires c κs = search needs
-
 returns : tie.Need-returns
 unfolding legal-by
 returns c =
@@ -65,12 +47,12 @@ is-legal-spec =
     tie.close
     (tie.spec
     condition-of-requires
-    value-in-requires
-    judge-requires
-    enum-told
-    enum-told-2
-    enum-known-verdict
-    is-there-requires
+    (λ c κs. search needs)
+    (λ c κs. search needs)
+    (λ c. search needs)
+    (λ c. search needs)
+    (λ c. search needs)
+    (λ c κs. search needs)
     returns
     returns-2
     returns-3)

@@ -8,17 +8,8 @@ use Rattle.attribute_check.proofs.value_in.Lts as lts
 use Rattle.octets.proofs.number_at.Reads as number-at-reads
 use Rattle.octets.proofs.wide.Reads as wide-reads
 
-shared-slice-read-wide : tie.Need-shared-slice-read-wide
-shared-slice-read-wide c = search needs
-
-wide-requires : tie.Need-wide-requires
-wide-requires c κs = search needs
-
 returns : tie.Need-returns
 returns c = c .wide .ensures .0 ∙ one-byte (c .before .before .before .before .args .v .now) (search needs)
-
-number-at-requires : tie.Need-number-at-requires
-number-at-requires c κs = search needs
 
 returns-2 : tie.Need-returns-2
 returns-2 c = c .number-at .ensures ∙ two-bytes (c .before .before .before .before .args .v .now) (search needs)
@@ -29,4 +20,4 @@ returns-3 c = no-bytes (c .before .before .before .args .v .now) (c .before .if1
 pub value-in-spec : {M : Type 1} → statement M
 value-in-spec =
     tie.close
-    (tie.spec shared-slice-read-wide wide-requires returns number-at-requires returns-2 returns-3)
+    (tie.spec (λ c. search needs) (λ c κs. search needs) returns (λ c κs. search needs) returns-2 returns-3)

@@ -10,12 +10,6 @@ use Rattle.attribute_tables.proofs.attribute_of.Reads as attribute-of-reads
 use Rattle.class_tables.proofs.classes.inside.Reads as inside-reads
 use Rattle.class_tables.proofs.Tables.{described}
 
-attribute-of-requires : tie.Need-attribute-of-requires
-attribute-of-requires c κs = search needs
-
-inside-requires : tie.Need-inside-requires
-inside-requires c κs = search needs
-
 add-result : tie.Need-add-result
 add-result c =
     let a = c .before .before .before .args in
@@ -30,4 +24,4 @@ returns c =
     in-entry-is (s .args .product) (s .args .class) (s .args .n) (described (c .before .before .attribute-of .ensures)) (c .before .inside .ensures) (s .pre .0) (s .pre .1)
 
 pub in-entry-spec : {M : Type 1} → statement M
-in-entry-spec = tie.close (tie.spec attribute-of-requires inside-requires add-result returns)
+in-entry-spec = tie.close (tie.spec (λ c κs. search needs) (λ c κs. search needs) add-result returns)

@@ -13,21 +13,6 @@ use Rattle.class_tables.proofs.classes.leader_of.Reads as leader-of-reads
 use Rattle.attribute_read.proofs.in_entry.Reads as in-entry-reads
 use Rattle.class_tables.proofs.Tables.{described}
 
-attribute-of-requires : tie.Need-attribute-of-requires
-attribute-of-requires c κs = search needs
-
-enum-known-way : tie.Need-enum-known-way
-enum-known-way c = search needs
-
-inside-requires : tie.Need-inside-requires
-inside-requires c κs = search needs
-
-sub-entry : tie.Need-sub-entry
-sub-entry c = search needs
-
-leader-of-requires : tie.Need-leader-of-requires
-leader-of-requires c κs = search needs
-
 in-entry-requires : tie.Need-in-entry-requires
 in-entry-requires c κs =
     let at-way = c .before .before .before in
@@ -45,9 +30,6 @@ add-o c =
     let i = inside-fits (s .args .product) (s .args .class) in
     let e = c .in-entry .ensures in
     omega arith
-
-enum-known-way-2 : tie.Need-enum-known-way-2
-enum-known-way-2 c = search needs
 
 in-entry-requires-2 : tie.Need-in-entry-requires-2
 in-entry-requires-2 c κs =
@@ -89,14 +71,14 @@ pub item-for-spec : {M : Type 1} → statement M
 item-for-spec =
     tie.close
     (tie.spec
-    attribute-of-requires
-    enum-known-way
-    inside-requires
-    sub-entry
-    leader-of-requires
+    (λ c κs. search needs)
+    (λ c. search needs)
+    (λ c κs. search needs)
+    (λ c. search needs)
+    (λ c κs. search needs)
     in-entry-requires
     add-o
-    enum-known-way-2
+    (λ c. search needs)
     in-entry-requires-2
     add-o-2
     returns

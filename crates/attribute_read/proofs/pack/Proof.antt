@@ -21,9 +21,6 @@ abbrev μ-loop : tie.MeasureT-loop
 loop-holds : tie.Need-loop-holds Inv-loop μ-loop
 loop-holds c = nothing-packed _ (c .before .before .before .pre)
 
-first-named-requires : tie.Need-first-named-requires Inv-loop μ-loop
-first-named-requires c κs = search needs
-
 item-for-requires : tie.Need-item-for-requires Inv-loop μ-loop
 item-for-requires c κs = (its-entry _ (c .before .before .loop .inv), next-there _ (c .before .before .loop .inv) (c .first-named .ensures))
 
@@ -40,9 +37,6 @@ add-to c =
     -- that the length of `out` is a usize
     let sized = at-loop .before .before .before .before .good in
     omega arith
-
-bit-of-requires : tie.Need-bit-of-requires Inv-loop μ-loop
-bit-of-requires c κs = search needs
 
 sub-left : tie.Need-sub-left Inv-loop μ-loop
 sub-left c = bit-in (c .before .before .before .before .before .before .first-named .ensures) (c .bit-of .ensures)
@@ -70,11 +64,11 @@ pack-spec =
     Inv-loop
     μ-loop
     loop-holds
-    first-named-requires
+    (λ c κs. search needs)
     item-for-requires
     put-requires
     add-to
-    bit-of-requires
+    (λ c κs. search needs)
     sub-left
     loop-less
     loop-again

@@ -14,9 +14,6 @@ use Rattle.attribute_read.proofs.naming.Reads as naming-reads
 use Rattle.attribute_read.proofs.put_count.Reads as put-count-reads
 use Rattle.table.proofs.attribute_part.Reads as attribute-part-reads
 
-enum-known-origin : tie.Need-enum-known-origin
-enum-known-origin c = search needs
-
 attribute-part-requires : tie.Need-attribute-part-requires
 attribute-part-requires c κs = at-fits (c .before .before .before .before .before .before .pre) (c .before .origin .given .1)
 
@@ -24,9 +21,6 @@ copy-in-requires : tie.Need-copy-in-requires
 copy-in-requires c κs =
     let s = c .before .before .before .before .before .before .before .before in
     part-fits (s .args .to) (s .args .x .size) _ _ (c .before .attribute-part .ensures) (s .pre .room-for-it)
-
-enum-known-origin-2 : tie.Need-enum-known-origin-2
-enum-known-origin-2 c = search needs
 
 naming-requires : tie.Need-naming-requires
 naming-requires c κs =
@@ -40,9 +34,6 @@ put-count-requires c κs =
     let b = chosen (s .args .which) (s .args .live .now) (s .args .frozen .now) in
     (rw (c .before .naming .ensures) (count-small (w .0 .0) (w .0 .1 .0) (s .args .number) b (s .pre .shaped)), s .pre .sized, s .pre .room-for-it)
 
-same-length : tie.Need-same-length
-same-length c = search needs
-
 returns : tie.Need-returns
 returns c =
     let at-copy-in = c .before .before in
@@ -52,9 +43,6 @@ returns c =
     let b = chosen (s .args .which) (s .args .live .now) (s .args .frozen .now) in
     at-copy-in .copy-in .ensures ∙
     ap (λ (v : List ℕ). laid (s .args .to) v (s .args .out .now)) (at-attribute-part .attribute-part .ensures ∙ shown-at b (s .args .number) (s .args .x) (at-origin .origin .given .1))
-
-same-length-2 : tie.Need-same-length-2
-same-length-2 c = search needs
 
 returns-2 : tie.Need-returns-2
 returns-2 c =
@@ -70,13 +58,13 @@ pub put-spec : {M : Type 1} → statement M
 put-spec =
     tie.close
     (tie.spec
-    enum-known-origin
+    (λ c. search needs)
     attribute-part-requires
     copy-in-requires
-    enum-known-origin-2
+    (λ c. search needs)
     naming-requires
     put-count-requires
-    same-length
+    (λ c. search needs)
     returns
-    same-length-2
+    (λ c. search needs)
     returns-2)

@@ -7,17 +7,11 @@ use Rattle.attribute_report.proofs.content_drop.Lts as lts
 use Rattle.attribute_check.proofs.is_legal.Reads as is-legal-reads
 use Rattle.attribute_report.proofs.is_reported.Reads as is-reported-reads
 
-is-reported-requires : tie.Need-is-reported-requires
-is-reported-requires c κs = search needs
-
 returns : tie.Need-returns
 returns c = not-reported _ _ _ _ _ _ (c .before .is-reported .ensures) (c .if1 .taken)
 
 returns-2 : tie.Need-returns-2
 returns-2 c = other-size _ _ _ _ _ _ (c .before .before .before .is-reported .ensures) (c .before .before .if1 .left) (c .if2 .taken)
-
-is-legal-requires : tie.Need-is-legal-requires
-is-legal-requires c κs = search needs
 
 returns-3 : tie.Need-returns-3
 returns-3 c =
@@ -32,4 +26,4 @@ returns-4 c =
 pub content-drop-spec : {M : Type 1} → statement M
 content-drop-spec =
     tie.close
-    (tie.spec is-reported-requires returns returns-2 is-legal-requires returns-3 returns-4)
+    (tie.spec (λ c κs. search needs) returns returns-2 (λ c κs. search needs) returns-3 returns-4)

@@ -9,21 +9,6 @@ use Rattle.message_frame.proofs.begin.Reads as begin-reads
 use Rattle.octets.proofs.copy_in.Reads as copy-in-reads
 use Rattle.octets.proofs.put_number.Reads as put-number-reads
 
-begin-requires : tie.Need-begin-requires
-begin-requires c κs = search needs
-
-bit-of-requires : tie.Need-bit-of-requires
-bit-of-requires c κs = search needs
-
-put-number-requires : tie.Need-put-number-requires
-put-number-requires c κs = search needs
-
-copy-in-requires : tie.Need-copy-in-requires
-copy-in-requires c κs = search needs
-
-same-length : tie.Need-same-length
-same-length c = search needs
-
 returns : tie.Need-returns
 returns c =
     let a = c .before .before .before .before .before .before .before .before .before .before .before .before .before .before .before .args in
@@ -36,9 +21,9 @@ pub notify-spec : {M : Type 1} → statement M
 notify-spec =
     tie.close
     (tie.spec
-    begin-requires
-    bit-of-requires
-    put-number-requires
-    copy-in-requires
-    same-length
+    (λ c κs. search needs)
+    (λ c κs. search needs)
+    (λ c κs. search needs)
+    (λ c κs. search needs)
+    (λ c. search needs)
     returns)

@@ -31,32 +31,8 @@ taken-here e =
     taken (a .product) (a .store .now) (a .reply .now) (f .pre .0) (a .class) (a .number) (a .attribute) (a .content .now) (f .fits .number .fits) spot
     (described (e .before .before .before .before .attribute-of .ensures)) (e .before .content-drop .ensures) (e .if1 .left)
 
-sub-locate : tie.Need-sub-locate
-sub-locate c = search needs
-
-part-locate-start : tie.Need-part-locate-start
-part-locate-start c = search needs
-
-part-locate-end : tie.Need-part-locate-end
-part-locate-end c = search needs
-
 locate-requires : tie.Need-locate-requires
 locate-requires c κs = let f = c .before .before .before .before .before in live-shaped (f .args .product) (f .args .store .now) (f .pre .0)
-
-enum-known-found : tie.Need-enum-known-found
-enum-known-found c = search needs
-
-attribute-of-requires : tie.Need-attribute-of-requires
-attribute-of-requires c κs = search needs
-
-sub-content-drop : tie.Need-sub-content-drop
-sub-content-drop c = search needs
-
-part-content-drop-start : tie.Need-part-content-drop-start
-part-content-drop-start c = search needs
-
-part-content-drop-end : tie.Need-part-content-drop-end
-part-content-drop-end c = search needs
 
 content-drop-requires : tie.Need-content-drop-requires
 content-drop-requires c κs =
@@ -66,9 +42,6 @@ content-drop-requires c κs =
     let spot = sym (c .before .before .before .before .before .before .locate .ensures) ∙ ap found-of (c .before .before .before .before .found .given .1) in
     (shape, judgeable (described (c .before .before .attribute-of .ensures)), spot-room (a .product) _ shape (a .class) (a .number) spot)
 
-same-length : tie.Need-same-length
-same-length c = search needs
-
 returns : tie.Need-returns
 returns c =
     let f = c .before .before .before .before .before .before .before .before .before .before .before .before .before .before in
@@ -76,15 +49,6 @@ returns c =
     let spot = sym (c .before .before .before .before .before .before .before .before .locate .ensures) ∙ ap found-of (c .before .before .before .before .before .before .found .given .1) in
     when-dropped (a .product) (a .store .now) (a .reply .now) (f .pre .0) (a .class) (a .number) (a .attribute) (a .content .now) (f .fits .number .fits) spot
     (described (c .before .before .before .before .attribute-of .ensures)) (c .before .content-drop .ensures) (c .if1 .taken)
-
-sub-write : tie.Need-sub-write
-sub-write c = search needs
-
-part-write-start : tie.Need-part-write-start
-part-write-start c = search needs
-
-part-write-end : tie.Need-part-write-end
-part-write-end c = search needs
 
 add-write : tie.Need-add-write
 add-write c = let t = taken-here (c .before .before) .inside in omega arith
@@ -99,28 +63,13 @@ notify-requires c κs =
     let small = t .short in
     (start e .pre .1, t .numbered .0, t .numbered .1, omega arith)
 
-same-length-2 : tie.Need-same-length-2
-same-length-2 c = search needs
-
-same-length-3 : tie.Need-same-length-3
-same-length-3 c = search needs
-
 returns-2 : tie.Need-returns-2
 returns-2 c =
     let w = c .before .before .before .before .before .before .before .before in
     taken-here (w .before .before .before) .if-answered (w .write .ensures) (c .before .before .before .before .if2 .taken) (c .before .before .notify .ensures)
 
-enum-told : tie.Need-enum-told
-enum-told c = search needs
-
-same-length-4 : tie.Need-same-length-4
-same-length-4 c = search needs
-
 returns-3 : tie.Need-returns-3
 returns-3 c = let w = c .before .before .before .before in taken-here (w .before .before .before) .if-quiet (w .write .ensures) (c .if2 .left)
-
-same-length-5 : tie.Need-same-length-5
-same-length-5 c = search needs
 
 returns-4 : tie.Need-returns-4
 returns-4 c =
@@ -133,29 +82,29 @@ pub report-attribute-spec : {M : Type 1} → statement M
 report-attribute-spec =
     tie.close
     (tie.spec
-    sub-locate
-    part-locate-start
-    part-locate-end
+    (λ c. search needs)
+    (λ c. search needs)
+    (λ c. search needs)
     locate-requires
-    enum-known-found
-    attribute-of-requires
-    sub-content-drop
-    part-content-drop-start
-    part-content-drop-end
+    (λ c. search needs)
+    (λ c κs. search needs)
+    (λ c. search needs)
+    (λ c. search needs)
+    (λ c. search needs)
     content-drop-requires
-    same-length
+    (λ c. search needs)
     returns
-    sub-write
-    part-write-start
-    part-write-end
+    (λ c. search needs)
+    (λ c. search needs)
+    (λ c. search needs)
     add-write
     write-requires
     notify-requires
-    same-length-2
-    same-length-3
+    (λ c. search needs)
+    (λ c. search needs)
     returns-2
-    enum-told
-    same-length-4
+    (λ c. search needs)
+    (λ c. search needs)
     returns-3
-    same-length-5
+    (λ c. search needs)
     returns-4)

@@ -3,12 +3,6 @@ use borrow.Author.Needs.{needs}
 use Rattle.attribute_tables.proofs.attribute_of.Statement.{statement}
 use Rattle.attribute_tables.proofs.attribute_of.Tie as tie
 
-enum-told : tie.Need-enum-told
-enum-told c = search needs
-
-enum-told-2 : tie.Need-enum-told-2
-enum-told-2 c = search needs
-
 returns : tie.Need-returns
 unfolding line-for lines-of
 returns c = record { is-line = rw (c .before .enum-told .given .1) (c .small .ensures) }
@@ -18,4 +12,4 @@ unfolding line-for lines-of
 returns-2 c = record { is-line = rw (c .before .enum-told2 .given .1) (c .large .ensures) }
 
 pub attribute-of-spec : {M : Type 1} → statement M
-attribute-of-spec = tie.close (tie.spec enum-told (λ c κs. tt) enum-told-2 (λ c κs. tt) returns returns-2)
+attribute-of-spec = tie.close (tie.spec (λ c. search needs) (λ c κs. tt) (λ c. search needs) (λ c κs. tt) returns returns-2)

@@ -6,14 +6,8 @@ use Rattle.attribute_write.proofs.lay_first.Statement.{statement}
 use Rattle.attribute_write.proofs.lay_first.Tie as tie
 use Rattle.class_tables.proofs.Tables.{described}
 
-attribute-of-requires : tie.Need-attribute-of-requires
-attribute-of-requires c κs = search needs
-
 add-place : tie.Need-add-place
 add-place c = let z = described (c .before .attribute-of .ensures) .near in omega arith
-
-enum-known-way : tie.Need-enum-known-way
-enum-known-way c = search needs
 
 put-bytes-requires : tie.Need-put-bytes-requires
 put-bytes-requires c κs =
@@ -21,26 +15,11 @@ put-bytes-requires c κs =
     let a = x .args in
     first-room (a .product) (a .class) (a .n) (a .at) (a .from .now) (a .b .now) (x .pre) (described (c .before .before .before .before .before .attribute-of .ensures))
 
-enum-known-way-2 : tie.Need-enum-known-way-2
-enum-known-way-2 c = search needs
-
-leader-of-requires : tie.Need-leader-of-requires
-leader-of-requires c κs = search needs
-
-attribute-of-requires-2 : tie.Need-attribute-of-requires-2
-attribute-of-requires-2 c κs = search needs
-
 add-end : tie.Need-add-end
 add-end c =
     let own = described (c .before .before .before .before .before .before .before .attribute-of .ensures) .small in
     let led = described (c .before .attribute-of2 .ensures) .near in
     omega arith
-
-sub-copy-in : tie.Need-sub-copy-in
-sub-copy-in c = search needs
-
-part-copy-in-start : tie.Need-part-copy-in-start
-part-copy-in-start c = search needs
 
 part-copy-in-end : tie.Need-part-copy-in-end
 part-copy-in-end c =
@@ -67,18 +46,6 @@ copy-in-requires c κs =
     (at-leader-of .leader-of .ensures) (described (at-attribute-of2 .attribute-of2 .ensures)) in
     simp (length-take, length-drop) (omega arith)
 
-enum-told : tie.Need-enum-told
-enum-told c = search needs
-
-enum-told-2 : tie.Need-enum-told-2
-enum-told-2 c = search needs
-
-enum-told-3 : tie.Need-enum-told-3
-enum-told-3 c = search needs
-
-same-length : tie.Need-same-length
-same-length c = search needs
-
 returns : tie.Need-returns
 returns c =
     let at-put-bytes = c .before .before in
@@ -87,9 +54,6 @@ returns c =
     let x = at-attribute-of .before .before .before in
     let a = x .args in
     first-put (a .product) (a .class) (a .n) (a .at) (a .from .now) (a .b .now) (x .pre) (described (at-attribute-of .attribute-of .ensures)) (at-way .way .given .1) (at-put-bytes .put-bytes .ensures)
-
-same-length-2 : tie.Need-same-length-2
-same-length-2 c = search needs
 
 returns-2 : tie.Need-returns-2
 returns-2 c =
@@ -125,24 +89,24 @@ pub lay-first-spec : {M : Type 1} → statement M
 lay-first-spec =
     tie.close
     (tie.spec
-    attribute-of-requires
+    (λ c κs. search needs)
     add-place
-    enum-known-way
+    (λ c. search needs)
     put-bytes-requires
-    enum-known-way-2
-    leader-of-requires
-    attribute-of-requires-2
+    (λ c. search needs)
+    (λ c κs. search needs)
+    (λ c κs. search needs)
     add-end
-    sub-copy-in
-    part-copy-in-start
+    (λ c. search needs)
+    (λ c. search needs)
     part-copy-in-end
     copy-in-requires
-    enum-told
-    enum-told-2
-    enum-told-3
-    same-length
+    (λ c. search needs)
+    (λ c. search needs)
+    (λ c. search needs)
+    (λ c. search needs)
     returns
-    same-length-2
+    (λ c. search needs)
     returns-2
     returns-3
     returns-4

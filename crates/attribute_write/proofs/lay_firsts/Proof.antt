@@ -15,14 +15,8 @@ abbrev μ-loop : tie.MeasureT-loop
 loop-holds : tie.Need-loop-holds Inv-loop μ-loop
 loop-holds c = no-firsts _ _ _ _ _ _ (c .before .before .pre)
 
-first-named-requires : tie.Need-first-named-requires Inv-loop μ-loop
-first-named-requires c κs = search needs
-
 lay-first-requires : tie.Need-lay-first-requires Inv-loop μ-loop
 lay-first-requires c κs = one-may _ _ (c .before .before .before .loop .inv) (c .before .first-named .ensures)
-
-bit-of-requires : tie.Need-bit-of-requires Inv-loop μ-loop
-bit-of-requires c κs = search needs
 
 sub-left : tie.Need-sub-left Inv-loop μ-loop
 sub-left c = bit-in (c .before .before .before .before .before .first-named .ensures) (c .bit-of .ensures)
@@ -50,9 +44,9 @@ lay-firsts-spec =
     Inv-loop
     μ-loop
     loop-holds
-    first-named-requires
+    (λ c κs. search needs)
     lay-first-requires
-    bit-of-requires
+    (λ c κs. search needs)
     sub-left
     loop-less
     loop-again

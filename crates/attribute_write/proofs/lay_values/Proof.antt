@@ -17,12 +17,6 @@ abbrev μ-loop : tie.MeasureT-loop
 loop-holds : tie.Need-loop-holds Inv-loop μ-loop
 loop-holds c = no-values _ _ _ _ _ (c .before .before .pre)
 
-first-named-requires : tie.Need-first-named-requires Inv-loop μ-loop
-first-named-requires c κs = search needs
-
-attribute-of-requires : tie.Need-attribute-of-requires Inv-loop μ-loop
-attribute-of-requires c κs = search needs
-
 add-end : tie.Need-add-end Inv-loop μ-loop
 add-end c =
     let z = value-room _ _ (c .before .before .before .before .loop .inv) (c .before .before .first-named .ensures) (described (c .before .attribute-of .ensures)) in
@@ -35,12 +29,6 @@ add-copy-in c =
     let at-loop = at-first-named .before .before in
     let z = value-room _ _ (at-loop .loop .inv) (at-first-named .first-named .ensures) (described (at-attribute-of .attribute-of .ensures)) in
     omega arith
-
-sub-copy-in : tie.Need-sub-copy-in Inv-loop μ-loop
-sub-copy-in c = search needs
-
-part-copy-in-start : tie.Need-part-copy-in-start Inv-loop μ-loop
-part-copy-in-start c = search needs
 
 part-copy-in-end : tie.Need-part-copy-in-end Inv-loop μ-loop
 part-copy-in-end c =
@@ -57,9 +45,6 @@ copy-in-requires c κs =
     let at-loop = at-first-named .before .before in
     let z = value-room _ _ (at-loop .loop .inv) (at-first-named .first-named .ensures) (described (at-attribute-of .attribute-of .ensures)) in
     simp (length-take, length-drop) (omega arith)
-
-bit-of-requires : tie.Need-bit-of-requires Inv-loop μ-loop
-bit-of-requires c κs = search needs
 
 sub-left : tie.Need-sub-left Inv-loop μ-loop
 sub-left c = bit-in (c .before .before .before .before .before .before .before .before .before .first-named .ensures) (c .bit-of .ensures)
@@ -88,15 +73,15 @@ lay-values-spec =
     Inv-loop
     μ-loop
     loop-holds
-    first-named-requires
-    attribute-of-requires
+    (λ c κs. search needs)
+    (λ c κs. search needs)
     add-end
     add-copy-in
-    sub-copy-in
-    part-copy-in-start
+    (λ c. search needs)
+    (λ c. search needs)
     part-copy-in-end
     copy-in-requires
-    bit-of-requires
+    (λ c κs. search needs)
     sub-left
     loop-less
     loop-again

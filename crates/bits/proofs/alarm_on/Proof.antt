@@ -7,14 +7,8 @@ use borrow.Author.Needs.{needs}
 use Rattle.bits.proofs.alarm_on.Statement.{statement}
 use Rattle.bits.proofs.alarm_on.Tie as tie
 
-sub-result : tie.Need-sub-result
-sub-result c = search needs
-
-shr-result : tie.Need-shr-result
-shr-result c = search needs
-
 returns : tie.Need-returns
 returns c = ap (λ (x : ℕ). eqb x 1) (and-mask (c .args .b / 2 ^ (7 - c .args .n)) 1) ∙ sym (bits-at 8 (c .args .b) (c .args .n) (c .pre))
 
 pub alarm-on-spec : {M : Type 1} → statement M
-alarm-on-spec = tie.close (tie.spec sub-result shr-result returns)
+alarm-on-spec = tie.close (tie.spec (λ c. search needs) (λ c. search needs) returns)

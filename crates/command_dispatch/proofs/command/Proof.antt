@@ -20,17 +20,11 @@ use Rattle.get_command.proofs.get.Reads as get-reads
 use Rattle.reset_command.proofs.reset.Reads as reset-reads
 use Rattle.set_command.proofs.set.Reads as set-reads
 
-has-result-requires : tie.Need-has-result-requires
-has-result-requires c κs = search needs
-
 slice-write-out : tie.Need-slice-write-out
 slice-write-out c =
     let a = c .before .before .before .before .before .args in
     let pre = c .before .before .before .before .before .pre in
     has-room (a .out .now) (pre .3)
-
-same-length : tie.Need-same-length
-same-length c = search needs
 
 returns : tie.Need-returns
 returns c =
@@ -41,17 +35,11 @@ returns c =
     (by-none (cat-of (a .product)) (state-in (a .product) (a .store .now)) (a .class) (a .number) (a .v .now) (a .kind) (sym (c .before .has-result .ensures) ∙ not-true (c .if1 .taken))
     (pre .1)) (refused-with (a .product) (a .store .now) (pre .0) 2 (a .out .now) (pre .3))
 
-known-requires : tie.Need-known-requires
-known-requires c κs = search needs
-
 slice-write-out-2 : tie.Need-slice-write-out-2
 slice-write-out-2 c =
     let a = c .before .before .before .before .before .before .before .args in
     let pre = c .before .before .before .before .before .before .before .pre in
     has-room (a .out .now) (pre .3)
-
-same-length-2 : tie.Need-same-length-2
-same-length-2 c = search needs
 
 returns-2 : tie.Need-returns-2
 returns-2 c =
@@ -65,17 +53,11 @@ returns-2 c =
     (sym (at-has-result .has-result .ensures) ∙ not-false (at-if1 .if1 .left)) (sym (c .before .known .ensures) ∙ not-true (c .if2 .taken)))
     (refused-with (a .product) (a .store .now) (pre .0) 4 (a .out .now) (pre .3))
 
-allows-requires : tie.Need-allows-requires
-allows-requires c κs = search needs
-
 slice-write-out-3 : tie.Need-slice-write-out-3
 slice-write-out-3 c =
     let a = c .before .before .before .before .before .before .before .before .before .args in
     let pre = c .before .before .before .before .before .before .before .before .before .pre in
     has-room (a .out .now) (pre .3)
-
-same-length-3 : tie.Need-same-length-3
-same-length-3 c = search needs
 
 returns-3 : tie.Need-returns-3
 returns-3 c =
@@ -128,21 +110,6 @@ delete-requires c κs =
       pre .3,
     )
 
-set-requires : tie.Need-set-requires
-set-requires c κs = search needs
-
-get-requires : tie.Need-get-requires
-get-requires c κs = search needs
-
-reset-requires : tie.Need-reset-requires
-reset-requires c κs = search needs
-
-same-length-4 : tie.Need-same-length-4
-same-length-4 c = search needs
-
-same-length-5 : tie.Need-same-length-5
-same-length-5 c = search needs
-
 returns-4 : tie.Need-returns-4
 returns-4 c =
     let at-create = c .before .before .before .before in
@@ -159,12 +126,6 @@ returns-4 c =
     (by-create (cat-of (a .product)) (state-in (a .product) (a .store .now)) (a .class) (a .number) (a .v .now) (sym (at-known .known .ensures) ∙ not-false (at-if2 .if2 .left))
     (at-number (cat-of (a .product)) (state-in (a .product) (a .store .now)) (a .class) (a .number) (a .v .now) (a .kind) _ (at-match .match .keys1)
     (sym (at-allows .allows .ensures) ∙ not-false (at-if3 .if3 .left))))) (at-create .create .ensures)
-
-same-length-6 : tie.Need-same-length-6
-same-length-6 c = search needs
-
-same-length-7 : tie.Need-same-length-7
-same-length-7 c = search needs
 
 returns-5 : tie.Need-returns-5
 returns-5 c =
@@ -183,12 +144,6 @@ returns-5 c =
     (at-number (cat-of (a .product)) (state-in (a .product) (a .store .now)) (a .class) (a .number) (a .v .now) (a .kind) _ (at-match .match .keys2)
     (sym (at-allows .allows .ensures) ∙ not-false (at-if3 .if3 .left))))) (at-delete .delete .ensures)
 
-same-length-8 : tie.Need-same-length-8
-same-length-8 c = search needs
-
-same-length-9 : tie.Need-same-length-9
-same-length-9 c = search needs
-
 returns-6 : tie.Need-returns-6
 returns-6 c =
     let at-set = c .before .before .before .before in
@@ -205,12 +160,6 @@ returns-6 c =
     (by-set (cat-of (a .product)) (state-in (a .product) (a .store .now)) (a .class) (a .number) (a .v .now) (sym (at-known .known .ensures) ∙ not-false (at-if2 .if2 .left))
     (at-number (cat-of (a .product)) (state-in (a .product) (a .store .now)) (a .class) (a .number) (a .v .now) (a .kind) _ (at-match .match .keys3)
     (sym (at-allows .allows .ensures) ∙ not-false (at-if3 .if3 .left))))) (at-set .set .ensures)
-
-same-length-10 : tie.Need-same-length-10
-same-length-10 c = search needs
-
-same-length-11 : tie.Need-same-length-11
-same-length-11 c = search needs
 
 returns-7 : tie.Need-returns-7
 returns-7 c =
@@ -229,12 +178,6 @@ returns-7 c =
     (at-number (cat-of (a .product)) (state-in (a .product) (a .store .now)) (a .class) (a .number) (a .v .now) (a .kind) _ (at-match .match .keys4)
     (sym (at-allows .allows .ensures) ∙ not-false (at-if3 .if3 .left)))))
     (only-says (a .product) (a .store .now) (pre .0) _ _ (get-keeps (cat-of (a .product)) (state-in (a .product) (a .store .now)) (a .class) (a .number) (a .v .now)) (at-get .get .ensures))
-
-same-length-12 : tie.Need-same-length-12
-same-length-12 c = search needs
-
-same-length-13 : tie.Need-same-length-13
-same-length-13 c = search needs
 
 returns-8 : tie.Need-returns-8
 returns-8 c =
@@ -262,35 +205,35 @@ pub command-spec : {M : Type 1} → statement M
 command-spec =
     tie.close
     (tie.spec
-    has-result-requires
+    (λ c κs. search needs)
     slice-write-out
-    same-length
+    (λ c. search needs)
     returns
-    known-requires
+    (λ c κs. search needs)
     slice-write-out-2
-    same-length-2
+    (λ c. search needs)
     returns-2
-    allows-requires
+    (λ c κs. search needs)
     slice-write-out-3
-    same-length-3
+    (λ c. search needs)
     returns-3
     create-requires
     delete-requires
-    set-requires
-    get-requires
-    reset-requires
-    same-length-4
-    same-length-5
+    (λ c κs. search needs)
+    (λ c κs. search needs)
+    (λ c κs. search needs)
+    (λ c. search needs)
+    (λ c. search needs)
     returns-4
-    same-length-6
-    same-length-7
+    (λ c. search needs)
+    (λ c. search needs)
     returns-5
-    same-length-8
-    same-length-9
+    (λ c. search needs)
+    (λ c. search needs)
     returns-6
-    same-length-10
-    same-length-11
+    (λ c. search needs)
+    (λ c. search needs)
     returns-7
-    same-length-12
-    same-length-13
+    (λ c. search needs)
+    (λ c. search needs)
     returns-8)

@@ -11,9 +11,6 @@ use Rattle.class_tables.proofs.masks.carried_mask.Reads as carried-mask-reads
 use Rattle.create_command.proofs.unkept_bit.Reads as unkept-bit-reads
 use Rattle.attribute_check.proofs.bad_mask.Reads as bad-mask-reads
 
-carried-mask-requires : tie.Need-carried-mask-requires
-carried-mask-requires c κs = search needs
-
 bad-mask-requires : tie.Need-bad-mask-requires
 bad-mask-requires c κs =
     let f = c .before .before .before .before in
@@ -21,9 +18,6 @@ bad-mask-requires c κs =
     let fit = contents-fit (a .product) (a .class) in
     let long = f .pre .3 in
     (f .pre .0, carried-room (a .product) (a .class) (c .carried-mask .ensures) (a .v .now) (f .pre .2), omega arith)
-
-unkept-bit-requires : tie.Need-unkept-bit-requires
-unkept-bit-requires c κs = search needs
 
 add-result : tie.Need-add-result
 add-result c =
@@ -43,4 +37,4 @@ returns c =
 pub bad-in-create-spec : {M : Type 1} → statement M
 bad-in-create-spec =
     tie.close
-    (tie.spec carried-mask-requires bad-mask-requires unkept-bit-requires add-result returns)
+    (tie.spec (λ c κs. search needs) bad-mask-requires (λ c κs. search needs) add-result returns)

@@ -27,34 +27,16 @@ its-place c e =
     let its-keys = keys-in (part live-at block-length (c .before .before .before .before .before .before .before .args .store .now)) in
     sym (c .place-of .ensures ∙ ap (λ k. position k its-keys) (c .before .key-of .ensures)) ∙ ap found-of e
 
-sub-place-of : tie.Need-sub-place-of
-sub-place-of c = search needs
-
-part-place-of-start : tie.Need-part-place-of-start
-part-place-of-start c = search needs
-
-part-place-of-end : tie.Need-part-place-of-end
-part-place-of-end c = search needs
-
-key-of-requires : tie.Need-key-of-requires
-key-of-requires c κs = search needs
-
 place-of-requires : tie.Need-place-of-requires
 place-of-requires c κs =
     let f = c .before .before .before .before .before .before in
     live-shaped (f .args .product) (f .args .store .now) (f .pre .0)
-
-enum-told : tie.Need-enum-told
-enum-told c = search needs
 
 slice-write-out : tie.Need-slice-write-out
 slice-write-out c =
     let f = c .before .before .before .before .before .before .before .before .before in
     let n : length (f .args .out .now) ≡ 32 = ap length (f .pre .3) in
     search needs
-
-enum-told-2 : tie.Need-enum-told-2
-enum-told-2 c = search needs
 
 create-absent-requires : tie.Need-create-absent-requires
 create-absent-requires c κs =
@@ -65,12 +47,6 @@ create-absent-requires c κs =
     let absent = not-held (a .product) (a .store .now) (f .pre .0) (a .class) (a .number) (f .fits .number .fits) (f .pre .1) (a .v .now) (f .pre .2) there in
     (f .pre .0, f .pre .1, f .pre .2, f .pre .3, absent)
 
-same-length : tie.Need-same-length
-same-length c = search needs
-
-same-length-2 : tie.Need-same-length-2
-same-length-2 c = search needs
-
 returns : tie.Need-returns
 returns c =
     let p = c .before .before in
@@ -79,31 +55,22 @@ returns c =
     exists (a .product) (a .store .now) (f .pre .0) (a .class) (a .number) (f .fits .number .fits) (f .pre .1) (a .v .now) (f .pre .2)
     (its-place p (c .enum-told .given .1)) (a .out .now) (f .pre .3)
 
-same-length-3 : tie.Need-same-length-3
-same-length-3 c = search needs
-
-same-length-4 : tie.Need-same-length-4
-same-length-4 c = search needs
-
-returns-2 : tie.Need-returns-2
-returns-2 c = search needs
-
 pub create-spec : {M : Type 1} → statement M
 create-spec =
     tie.close
     (tie.spec
-    sub-place-of
-    part-place-of-start
-    part-place-of-end
-    key-of-requires
+    (λ c. search needs)
+    (λ c. search needs)
+    (λ c. search needs)
+    (λ c κs. search needs)
     place-of-requires
-    enum-told
+    (λ c. search needs)
     slice-write-out
-    enum-told-2
+    (λ c. search needs)
     create-absent-requires
-    same-length
-    same-length-2
+    (λ c. search needs)
+    (λ c. search needs)
     returns
-    same-length-3
-    same-length-4
-    returns-2)
+    (λ c. search needs)
+    (λ c. search needs)
+    (λ c. search needs))

@@ -19,24 +19,6 @@ use Rattle.octets.proofs.put_number.Reads as put-number-reads
 use Rattle.table.proofs.in_use.Reads as in-use-reads
 use Rattle.rules.specs.Messages.{bad-parameter}
 
-slice-aggregate-new-place : tie.Need-slice-aggregate-new-place
-slice-aggregate-new-place c = search needs
-
-new-place-requires : tie.Need-new-place-requires
-new-place-requires c κs = search needs
-
-sub-bad-in-create : tie.Need-sub-bad-in-create
-sub-bad-in-create c = search needs
-
-part-bad-in-create-start : tie.Need-part-bad-in-create-start
-part-bad-in-create-start c = search needs
-
-part-bad-in-create-end : tie.Need-part-bad-in-create-end
-part-bad-in-create-end c = search needs
-
-slice-aggregate-bad-in-create : tie.Need-slice-aggregate-bad-in-create
-slice-aggregate-bad-in-create c = search needs
-
 bad-in-create-requires : tie.Need-bad-in-create-requires
 bad-in-create-requires c κs =
     let f = c .before .before .before .before .before .before .before .before .before in
@@ -53,9 +35,6 @@ put-number-requires c κs =
     let f = c .before .before .before .before .before .before .before .before .before .before .before .before in
     let n : length (set (f .args .out .now) 0 bad-parameter) ≡ 32 = ap (λ o. length (set o 0 bad-parameter)) (f .pre .3) in
     omega arith
-
-same-length : tie.Need-same-length
-same-length c = search needs
 
 same-length-2 : tie.Need-same-length-2
 same-length-2 c =
@@ -74,29 +53,11 @@ returns c =
     (refused-bad (a .product) (a .store .now) (f .pre .0) (a .class) (a .number) (f .fits .number .fits) (f .pre .1) (a .v .now) (f .pre .2) (f .pre .4)
     (j .bad-in-create .result) (p .new-place .ensures) (j .bad-in-create .ensures) (c .before .before .before .before .if1 .taken) (a .out .now) (f .pre .3))
 
-sub-in-use : tie.Need-sub-in-use
-sub-in-use c = search needs
-
-part-in-use-start : tie.Need-part-in-use-start
-part-in-use-start c = search needs
-
-part-in-use-end : tie.Need-part-in-use-end
-part-in-use-end c = search needs
-
-in-use-requires : tie.Need-in-use-requires
-in-use-requires c κs = search needs
-
 slice-write-out-2 : tie.Need-slice-write-out-2
 slice-write-out-2 c =
     let f = c .before .before .before .before .before .before .before .before .before .before .before .before .before .before .before in
     let n : length (f .args .out .now) ≡ 32 = ap length (f .pre .3) in
     search needs
-
-same-length-3 : tie.Need-same-length-3
-same-length-3 c = search needs
-
-same-length-4 : tie.Need-same-length-4
-same-length-4 c = search needs
 
 returns-2 : tie.Need-returns-2
 returns-2 c =
@@ -108,27 +69,6 @@ returns-2 c =
     let m = c .if2 .taken in
     refused-full (a .product) (a .store .now) (f .pre .0) (a .class) (a .number) (f .fits .number .fits) (f .pre .1) (a .v .now) (f .pre .2) (f .pre .4)
     (j .bad-in-create .result) (p .new-place .ensures) (j .bad-in-create .ensures) (c .before .before .before .before .if1 .left) (omega arith) (a .out .now) (f .pre .3)
-
-sub-put-in : tie.Need-sub-put-in
-sub-put-in c = search needs
-
-part-put-in-start : tie.Need-part-put-in-start
-part-put-in-start c = search needs
-
-part-put-in-end : tie.Need-part-put-in-end
-part-put-in-end c = search needs
-
-key-of-requires : tie.Need-key-of-requires
-key-of-requires c κs = search needs
-
-slice-aggregate-put-in : tie.Need-slice-aggregate-put-in
-slice-aggregate-put-in c = search needs
-
-put-in-requires : tie.Need-put-in-requires
-put-in-requires c κs = search needs
-
-same-length-5 : tie.Need-same-length-5
-same-length-5 c = search needs
 
 returns-3 : tie.Need-returns-3
 returns-3 c =
@@ -149,31 +89,31 @@ pub create-absent-spec : {M : Type 1} → statement M
 create-absent-spec =
     tie.close
     (tie.spec
-    slice-aggregate-new-place
-    new-place-requires
-    sub-bad-in-create
-    part-bad-in-create-start
-    part-bad-in-create-end
-    slice-aggregate-bad-in-create
+    (λ c. search needs)
+    (λ c κs. search needs)
+    (λ c. search needs)
+    (λ c. search needs)
+    (λ c. search needs)
+    (λ c. search needs)
     bad-in-create-requires
     slice-write-out
     put-number-requires
-    same-length
+    (λ c. search needs)
     same-length-2
     returns
-    sub-in-use
-    part-in-use-start
-    part-in-use-end
-    in-use-requires
+    (λ c. search needs)
+    (λ c. search needs)
+    (λ c. search needs)
+    (λ c κs. search needs)
     slice-write-out-2
-    same-length-3
-    same-length-4
+    (λ c. search needs)
+    (λ c. search needs)
     returns-2
-    sub-put-in
-    part-put-in-start
-    part-put-in-end
-    key-of-requires
-    slice-aggregate-put-in
-    put-in-requires
-    same-length-5
+    (λ c. search needs)
+    (λ c. search needs)
+    (λ c. search needs)
+    (λ c κs. search needs)
+    (λ c. search needs)
+    (λ c κs. search needs)
+    (λ c. search needs)
     returns-3)

@@ -10,18 +10,6 @@ use Rattle.class_tables.proofs.masks.carried_mask.Reads as carried-mask-reads
 use Rattle.class_tables.proofs.masks.stored_mask.Reads as stored-mask-reads
 use Rattle.attribute_write.proofs.lay_firsts.Reads as lay-firsts-reads
 
-stored-mask-requires : tie.Need-stored-mask-requires
-stored-mask-requires c κs = search needs
-
-carried-mask-requires : tie.Need-carried-mask-requires
-carried-mask-requires c κs = search needs
-
-without-requires : tie.Need-without-requires
-without-requires c κs = search needs
-
-inside-requires : tie.Need-inside-requires
-inside-requires c κs = search needs
-
 lay-firsts-requires : tie.Need-lay-firsts-requires
 lay-firsts-requires c κs =
     let m = c .before .before in
@@ -29,9 +17,6 @@ lay-firsts-requires c κs =
     let a = f .args in
     may-lay-others (a .product) (a .class) (m .before .before .stored-mask .ensures) (m .before .carried-mask .ensures) (m .without .ensures) (c .inside .ensures)
     (a .own .now) (a .c .now) (f .pre .0) (f .pre .1)
-
-same-length : tie.Need-same-length
-same-length c = search needs
 
 returns : tie.Need-returns
 returns c =
@@ -45,10 +30,10 @@ pub lay-others-spec : {M : Type 1} → statement M
 lay-others-spec =
     tie.close
     (tie.spec
-    stored-mask-requires
-    carried-mask-requires
-    without-requires
-    inside-requires
+    (λ c κs. search needs)
+    (λ c κs. search needs)
+    (λ c κs. search needs)
+    (λ c κs. search needs)
     lay-firsts-requires
-    same-length
+    (λ c. search needs)
     returns)

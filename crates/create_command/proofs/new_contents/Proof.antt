@@ -14,12 +14,6 @@ use Rattle.create_command.proofs.lay_others.Reads as lay-others-reads
 use Rattle.attribute_write.proofs.lay_values.Reads as lay-values-reads
 use Rattle.octets.proofs.copy_in.Reads as copy-in-reads
 
-slice-aggregate-lay-values : tie.Need-slice-aggregate-lay-values
-slice-aggregate-lay-values c = search needs
-
-carried-mask-requires : tie.Need-carried-mask-requires
-carried-mask-requires c κs = search needs
-
 lay-values-requires : tie.Need-lay-values-requires
 lay-values-requires c κs =
     let f = c .before .before .before .before in
@@ -31,9 +25,6 @@ own-long c =
     let f = c .before .before .before .before .before in
     carried-long (f .args .product) (f .args .class) (c .before .carried-mask .ensures) (f .args .v .now) (f .pre .2) (f .pre .1) (c .lay-values .ensures)
 
-slice-aggregate-copy-in : tie.Need-slice-aggregate-copy-in
-slice-aggregate-copy-in c = search needs
-
 copy-in-requires : tie.Need-copy-in-requires
 copy-in-requires c κs =
     let l = c .before .before .before in
@@ -42,9 +33,6 @@ copy-in-requires c κs =
     let m : length (f .args .c .now) ≡ place-width = ap length (f .pre .0) in
     omega arith
 
-slice-aggregate-lay-others : tie.Need-slice-aggregate-lay-others
-slice-aggregate-lay-others c = search needs
-
 lay-others-requires : tie.Need-lay-others-requires
 lay-others-requires c κs =
     let l = c .before .before .before .before .before .before .before .before in
@@ -52,21 +40,12 @@ lay-others-requires c κs =
     let m : length (f .args .c .now) ≡ place-width = ap length (f .pre .0) in
     (search needs, own-long l)
 
-companion-of-requires : tie.Need-companion-of-requires
-companion-of-requires c κs = search needs
-
-slice-aggregate-lay-others-2 : tie.Need-slice-aggregate-lay-others-2
-slice-aggregate-lay-others-2 c = search needs
-
 lay-others-requires-2 : tie.Need-lay-others-requires-2
 lay-others-requires-2 c κs =
     let l = c .before .before .before .before .before .before .before .before .before .before .before .before .before .before .before in
     let f = l .before .before .before .before .before in
     let m : length (f .args .c .now) ≡ place-width = ap length (f .pre .0) in
     (search needs, own-long l)
-
-same-length : tie.Need-same-length
-same-length c = search needs
 
 returns : tie.Need-returns
 returns c =
@@ -77,9 +56,6 @@ returns c =
     made-with (a .product) (a .class) (l .before .carried-mask .ensures) (a .v .now) (f .pre .2) (f .pre .1) (l .lay-values .ensures) (o .companion-of .result)
     (f .pre .0) (o .before .before .before .before .before .before .before .before .copy-in .ensures) (o .before .before .before .lay-others .ensures) (o .companion-of .ensures)
     (c .before .before .before .before .before .if1 .taken) (c .before .before .lay-others2 .ensures)
-
-same-length-2 : tie.Need-same-length-2
-same-length-2 c = search needs
 
 returns-2 : tie.Need-returns-2
 returns-2 c =
@@ -94,17 +70,17 @@ pub new-contents-spec : {M : Type 1} → statement M
 new-contents-spec =
     tie.close
     (tie.spec
-    slice-aggregate-lay-values
-    carried-mask-requires
+    (λ c. search needs)
+    (λ c κs. search needs)
     lay-values-requires
-    slice-aggregate-copy-in
+    (λ c. search needs)
     copy-in-requires
-    slice-aggregate-lay-others
+    (λ c. search needs)
     lay-others-requires
-    companion-of-requires
-    slice-aggregate-lay-others-2
+    (λ c κs. search needs)
+    (λ c. search needs)
     lay-others-requires-2
-    same-length
+    (λ c. search needs)
     returns
-    same-length-2
+    (λ c. search needs)
     returns-2)

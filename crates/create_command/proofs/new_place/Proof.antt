@@ -37,18 +37,12 @@ sub-new-contents c = let m = keyed (c .before .before) in omega arith
 part-new-contents-start : tie.Need-part-new-contents-start
 part-new-contents-start c = let m = keyed (c .before .before) in search needs
 
-part-new-contents-end : tie.Need-part-new-contents-end
-part-new-contents-end c = search needs
-
 new-contents-requires : tie.Need-new-contents-requires
 new-contents-requires c κs =
     let q = c .before .before .before in
     let p = q .before .before .before .before in
     let f = p .before .before .before .before in
     (blank-behind (f .args .class) (f .args .number) (f .pre .0) (p .put-number .ensures) (q .put-number2 .ensures), f .pre .1, f .pre .2)
-
-same-length : tie.Need-same-length
-same-length c = search needs
 
 returns : tie.Need-returns
 returns c =
@@ -65,7 +59,7 @@ new-place-spec =
     put-number-requires-2
     sub-new-contents
     part-new-contents-start
-    part-new-contents-end
+    (λ c. search needs)
     new-contents-requires
-    same-length
+    (λ c. search needs)
     returns)

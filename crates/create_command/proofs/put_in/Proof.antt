@@ -8,19 +8,10 @@ use Rattle.table.proofs.counter.move_counter.Reads as move-counter-reads
 use Rattle.table.proofs.insert_place.Reads as insert-place-reads
 use Rattle.table.proofs.rank_of.Reads as rank-of-reads
 
-rank-of-requires : tie.Need-rank-of-requires
-rank-of-requires c κs = search needs
-
 insert-place-requires : tie.Need-insert-place-requires
 insert-place-requires c κs =
     let f = c .before .before .before .before .before in
     (f .pre .0, f .pre .1, rank-small (f .args .key) (f .args .b .now) (c .before .rank-of .ensures), f .pre .2)
-
-move-counter-requires : tie.Need-move-counter-requires
-move-counter-requires c κs = search needs
-
-same-length : tie.Need-same-length
-same-length c = search needs
 
 returns : tie.Need-returns
 returns c =
@@ -31,4 +22,4 @@ returns c =
 pub put-in-spec : {M : Type 1} → statement M
 put-in-spec =
     tie.close
-    (tie.spec rank-of-requires insert-place-requires move-counter-requires same-length returns)
+    (tie.spec (λ c κs. search needs) insert-place-requires (λ c κs. search needs) (λ c. search needs) returns)

@@ -13,19 +13,10 @@ use Rattle.octets.proofs.zeros.Reads as zeros-reads
 use Prim.Native.Nat.{_+_, _≤_}
 use lib.ListN.{length}
 
-unkept-requires : tie.Need-unkept-requires
-unkept-requires c κs = search needs
-
 returns : tie.Need-returns
 returns c =
     let f = c .before .before .before .before in
     nothing-unkept (f .args .product) (f .args .class) (f .args .v .now) (f .pre) (c .before .before .unkept .result) (c .before .before .unkept .ensures) (c .if1 .taken)
-
-carried-mask-requires : tie.Need-carried-mask-requires
-carried-mask-requires c κs = search needs
-
-total-size-requires : tie.Need-total-size-requires
-total-size-requires c κs = search needs
 
 -- it follows what is kept
 follows : (c : tie.After-total-size) → c .total-size .result + c .before .before .before .before .unkept .result .size ≤ length (c .before .before .before .before .before .before .args .v .now)
@@ -41,17 +32,8 @@ add-to c =
     let long = c .before .before .before .before .before .before .before .pre in
     omega arith
 
-sub-zeros : tie.Need-sub-zeros
-sub-zeros c = search needs
-
-part-zeros-start : tie.Need-part-zeros-start
-part-zeros-start c = search needs
-
 part-zeros-end : tie.Need-part-zeros-end
 part-zeros-end c = let room = follows (c .before) in search needs
-
-zeros-requires : tie.Need-zeros-requires
-zeros-requires c κs = search needs
 
 returns-2 : tie.Need-returns-2
 returns-2 c =
@@ -79,15 +61,15 @@ pub unkept-bit-spec : {M : Type 1} → statement M
 unkept-bit-spec =
     tie.close
     (tie.spec
-    unkept-requires
+    (λ c κs. search needs)
     returns
-    carried-mask-requires
-    total-size-requires
+    (λ c κs. search needs)
+    (λ c κs. search needs)
     add-to
-    sub-zeros
-    part-zeros-start
+    (λ c. search needs)
+    (λ c. search needs)
     part-zeros-end
-    zeros-requires
+    (λ c κs. search needs)
     returns-2
     bit-of-requires
     returns-3)

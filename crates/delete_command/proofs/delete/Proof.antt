@@ -27,32 +27,8 @@ its-place c e =
     let entry = c .before .before .before .before .before .before in
     sym (c .place-of .ensures ∙ ap (λ k. position k (keys-in (part live-at block-length (entry .args .store .now)))) (c .before .key-of .ensures)) ∙ ap found-of e
 
-sub-place-of : tie.Need-sub-place-of
-sub-place-of c = search needs
-
-part-place-of-start : tie.Need-part-place-of-start
-part-place-of-start c = search needs
-
-part-place-of-end : tie.Need-part-place-of-end
-part-place-of-end c = search needs
-
-key-of-requires : tie.Need-key-of-requires
-key-of-requires c κs = search needs
-
 place-of-requires : tie.Need-place-of-requires
 place-of-requires c κs = let f = c .before .before .before .before .before in live-shaped (f .args .product) (f .args .store .now) (f .pre .0)
-
-enum-known-found : tie.Need-enum-known-found
-enum-known-found c = search needs
-
-sub-take-out : tie.Need-sub-take-out
-sub-take-out c = search needs
-
-part-take-out-start : tie.Need-part-take-out-start
-part-take-out-start c = search needs
-
-part-take-out-end : tie.Need-part-take-out-end
-part-take-out-end c = search needs
 
 take-out-requires : tie.Need-take-out-requires
 take-out-requires c κs =
@@ -63,17 +39,11 @@ take-out-requires c κs =
           (its-place (c .before .before .before .before) (c .before .before .found .given .1)),
     )
 
-enum-told : tie.Need-enum-told
-enum-told c = search needs
-
 slice-write-out : tie.Need-slice-write-out
 slice-write-out c =
     let f = c .before .before .before .before .before .before .before .before in
     let n : length (f .args .out .now) ≡ 32 = rw (f .pre .2) refl in
     search needs
-
-same-length : tie.Need-same-length
-same-length c = search needs
 
 returns : tie.Need-returns
 returns c =
@@ -82,12 +52,6 @@ returns c =
     rw (c .before .before .take-out .ensures)
     (deleted (a .product) (a .store .now) (f .pre .0) (a .class) (a .number) (f .fits .number .fits) (f .pre .1) _
     (its-place (c .before .before .before .before .before .before .before) (c .before .before .before .before .before .found .given .1)) (a .out .now) (f .pre .2))
-
-same-length-2 : tie.Need-same-length-2
-same-length-2 c = search needs
-
-same-length-3 : tie.Need-same-length-3
-same-length-3 c = search needs
 
 returns-2 : tie.Need-returns-2
 returns-2 c =
@@ -100,20 +64,20 @@ pub delete-spec : {M : Type 1} → statement M
 delete-spec =
     tie.close
     (tie.spec
-    sub-place-of
-    part-place-of-start
-    part-place-of-end
-    key-of-requires
+    (λ c. search needs)
+    (λ c. search needs)
+    (λ c. search needs)
+    (λ c κs. search needs)
     place-of-requires
-    enum-known-found
-    sub-take-out
-    part-take-out-start
-    part-take-out-end
+    (λ c. search needs)
+    (λ c. search needs)
+    (λ c. search needs)
+    (λ c. search needs)
     take-out-requires
-    enum-told
+    (λ c. search needs)
     slice-write-out
-    same-length
+    (λ c. search needs)
     returns
-    same-length-2
-    same-length-3
+    (λ c. search needs)
+    (λ c. search needs)
     returns-2)

@@ -7,18 +7,9 @@ use Rattle.delete_command.proofs.take_out.Lts as lts
 use Rattle.table.proofs.counter.move_counter.Reads as move-counter-reads
 use Rattle.table.proofs.remove_place.Reads as remove-place-reads
 
-remove-place-requires : tie.Need-remove-place-requires
-remove-place-requires c κs = search needs
-
-move-counter-requires : tie.Need-move-counter-requires
-move-counter-requires c κs = search needs
-
-same-length : tie.Need-same-length
-same-length c = search needs
-
 returns : tie.Need-returns
 returns c = taken-out-is _ _ _ _ (c .before .before .before .before .before .before .remove-place .ensures) (c .before .before .move-counter .ensures)
 
 pub take-out-spec : {M : Type 1} → statement M
 take-out-spec =
-    tie.close (tie.spec remove-place-requires move-counter-requires same-length returns)
+    tie.close (tie.spec (λ c κs. search needs) (λ c κs. search needs) (λ c. search needs) returns)

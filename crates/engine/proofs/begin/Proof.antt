@@ -15,9 +15,6 @@ returns c =
     let a = c .before .before .args in
     no-room (a .room) (a .store .now) (c .if1 .taken)
 
-store-ok-requires : tie.Need-store-ok-requires
-store-ok-requires c κs = search needs
-
 returns-2 : tie.Need-returns-2
 returns-2 c =
     let a = c .before .before .before .before .args in
@@ -27,15 +24,6 @@ shared-slice-read-product-at : tie.Need-shared-slice-read-product-at
 shared-slice-read-product-at c =
     let long = sound-long (c .before .before .before .before .before .args .store .now) (sym (c .before .before .store-ok .ensures) ∙ not-false (c .before .if2 .left)) in
     omega arith
-
-product-at-requires : tie.Need-product-at-requires
-product-at-requires c κs = search needs
-
-enum-known-named : tie.Need-enum-known-named
-enum-known-named c = search needs
-
-enum-told : tie.Need-enum-told
-enum-told c = search needs
 
 returns-3 : tie.Need-returns-3
 returns-3 c =
@@ -56,11 +44,11 @@ begin-spec =
     tie.close
     (tie.spec
     returns
-    store-ok-requires
+    (λ c κs. search needs)
     returns-2
     shared-slice-read-product-at
-    product-at-requires
-    enum-known-named
-    enum-told
+    (λ c κs. search needs)
+    (λ c. search needs)
+    (λ c. search needs)
     returns-3
     returns-4)

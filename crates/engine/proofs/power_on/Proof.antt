@@ -11,21 +11,6 @@ returns : tie.Need-returns
 returns c =
     too-short (c .before .before .args .store .now) (c .before .before .args .product) (c .if1 .taken)
 
-product-at-requires : tie.Need-product-at-requires
-product-at-requires c κs = search needs
-
-enum-known-named : tie.Need-enum-known-named
-enum-known-named c = search needs
-
-write-fresh-requires : tie.Need-write-fresh-requires
-write-fresh-requires c κs = search needs
-
-enum-told : tie.Need-enum-told
-enum-told c = search needs
-
-same-length : tie.Need-same-length
-same-length c = search needs
-
 returns-2 : tie.Need-returns-2
 returns-2 c =
     let at-write-fresh = c .before .before in
@@ -46,10 +31,10 @@ power-on-spec =
     tie.close
     (tie.spec
     returns
-    product-at-requires
-    enum-known-named
-    write-fresh-requires
-    enum-told
-    same-length
+    (λ c κs. search needs)
+    (λ c. search needs)
+    (λ c κs. search needs)
+    (λ c. search needs)
+    (λ c. search needs)
     returns-2
     returns-3)

@@ -9,26 +9,11 @@ use Rattle.engine.proofs.report_alarm.Lts as lts
 use Rattle.alarm_report.proofs.report_alarm.Reads as report-alarm-reads
 use Rattle.engine.proofs.begin.Reads as begin-reads
 
-begin-requires : tie.Need-begin-requires
-begin-requires c κs = search needs
-
-enum-known-entry : tie.Need-enum-known-entry
-enum-known-entry c = search needs
-
 report-alarm-requires : tie.Need-report-alarm-requires
 report-alarm-requires c κs =
     let found = c .before .before .before .entry .given .1 in
     let enters = c .before .before .before .before .before .begin .ensures in
     (enters .opened _ found .its-sound, enters .has-room _ found)
-
-enum-known-entry-2 : tie.Need-enum-known-entry-2
-enum-known-entry-2 c = search needs
-
-same-length : tie.Need-same-length
-same-length c = search needs
-
-same-length-2 : tie.Need-same-length-2
-same-length-2 c = search needs
 
 returns : tie.Need-returns
 unfolding taken
@@ -42,9 +27,6 @@ returns c =
     let enters = at-begin .begin .ensures in
     at-report-alarm .report-alarm .ensures ∙ taken-in (alarm-report (a .class) (a .number) (a .alarm) (a .on)) (a .store .now) (a .reply .now) _ (enters .has-room _ found) (enters .opened _ found)
 
-same-length-3 : tie.Need-same-length-3
-same-length-3 c = search needs
-
 returns-2 : tie.Need-returns-2
 returns-2 c =
     let a = c .before .before .before .before .before .before .before .args in
@@ -54,12 +36,12 @@ pub report-alarm-spec : {M : Type 1} → statement M
 report-alarm-spec =
     tie.close
     (tie.spec
-    begin-requires
-    enum-known-entry
+    (λ c κs. search needs)
+    (λ c. search needs)
     report-alarm-requires
-    enum-known-entry-2
-    same-length
-    same-length-2
+    (λ c. search needs)
+    (λ c. search needs)
+    (λ c. search needs)
     returns
-    same-length-3
+    (λ c. search needs)
     returns-2)

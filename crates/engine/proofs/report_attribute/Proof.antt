@@ -9,26 +9,11 @@ use Rattle.engine.proofs.report_attribute.Lts as lts
 use Rattle.attribute_report.proofs.report_attribute.Reads as report-attribute-reads
 use Rattle.engine.proofs.begin.Reads as begin-reads
 
-begin-requires : tie.Need-begin-requires
-begin-requires c κs = search needs
-
-enum-known-entry : tie.Need-enum-known-entry
-enum-known-entry c = search needs
-
 report-attribute-requires : tie.Need-report-attribute-requires
 report-attribute-requires c κs =
     let found = c .before .before .before .entry .given .1 in
     let enters = c .before .before .before .before .before .begin .ensures in
     (enters .opened _ found .its-sound, enters .has-room _ found)
-
-enum-known-entry-2 : tie.Need-enum-known-entry-2
-enum-known-entry-2 c = search needs
-
-same-length : tie.Need-same-length
-same-length c = search needs
-
-same-length-2 : tie.Need-same-length-2
-same-length-2 c = search needs
 
 returns : tie.Need-returns
 unfolding taken
@@ -43,9 +28,6 @@ returns c =
     at-report-attribute .report-attribute .ensures
     ∙ taken-in (attribute-report (a .class) (a .number) (a .attribute) (a .content .now)) (a .store .now) (a .reply .now) _ (enters .has-room _ found) (enters .opened _ found)
 
-same-length-3 : tie.Need-same-length-3
-same-length-3 c = search needs
-
 returns-2 : tie.Need-returns-2
 returns-2 c =
     let at-begin = c .before .before .before in
@@ -57,12 +39,12 @@ pub report-attribute-spec : {M : Type 1} → statement M
 report-attribute-spec =
     tie.close
     (tie.spec
-    begin-requires
-    enum-known-entry
+    (λ c κs. search needs)
+    (λ c. search needs)
     report-attribute-requires
-    enum-known-entry-2
-    same-length
-    same-length-2
+    (λ c. search needs)
+    (λ c. search needs)
+    (λ c. search needs)
     returns
-    same-length-3
+    (λ c. search needs)
     returns-2)

@@ -11,40 +11,16 @@ use Rattle.message_frame.proofs.message_drop.Reads as message-drop-reads
 use Rattle.remembered_command.proofs.is_repeat.Reads as is-repeat-reads
 use Rattle.remembered_command.proofs.recall.Reads as recall-reads
 
-message-drop-requires : tie.Need-message-drop-requires
-message-drop-requires c κs = search needs
-
 returns : tie.Need-returns
 returns c =
     let a = c .before .before .before .before .before .args in
     dropped-as (a .product) (a .store .now) (a .m .now) (a .reply .now) (c .before .before .before .before .before .pre .0) _ (c .before .message-drop .ensures) (c .if1 .taken)
-
-sub-is-repeat : tie.Need-sub-is-repeat
-sub-is-repeat c = search needs
-
-part-is-repeat-start : tie.Need-part-is-repeat-start
-part-is-repeat-start c = search needs
-
-part-is-repeat-end : tie.Need-part-is-repeat-end
-part-is-repeat-end c = search needs
 
 is-repeat-requires : tie.Need-is-repeat-requires
 is-repeat-requires c κs =
     let a = c .before .before .before .before .before .before .before .args in
     let l = not-dropped-long (a .m .now) (sym (c .before .before .if1 .left) ∙ c .before .before .before .message-drop .ensures) in
     (memory-whole (a .product) (a .store .now) (a .m .now) (a .reply .now) (c .before .before .before .before .before .before .before .pre .0), omega arith)
-
-sub-recall : tie.Need-sub-recall
-sub-recall c = search needs
-
-part-recall-start : tie.Need-part-recall-start
-part-recall-start c = search needs
-
-part-recall-end : tie.Need-part-recall-end
-part-recall-end c = search needs
-
-recall-requires : tie.Need-recall-requires
-recall-requires c κs = search needs
 
 answer-anew-requires : tie.Need-answer-anew-requires
 answer-anew-requires c κs =
@@ -55,12 +31,6 @@ answer-anew-requires c κs =
       e .before .before .before .before .before .pre .1,
     )
 
-same-length : tie.Need-same-length
-same-length c = search needs
-
-same-length-2 : tie.Need-same-length-2
-same-length-2 c = search needs
-
 returns-2 : tie.Need-returns-2
 returns-2 c =
     let e = c .before .before .before .before .before .before .before .before .before .before in
@@ -68,12 +38,6 @@ returns-2 c =
     let clear = sym (e .if1 .left) ∙ e .before .message-drop .ensures in
     let again = sym (c .before .before .before .before .before .before .before .is-repeat .ensures) ∙ c .before .before .before .before .before .before .if2 .taken in
     answered-again (a .product) (a .store .now) (a .m .now) (a .reply .now) (e .before .before .before .before .before .pre .0) clear again (c .before .before .recall .ensures)
-
-same-length-3 : tie.Need-same-length-3
-same-length-3 c = search needs
-
-same-length-4 : tie.Need-same-length-4
-same-length-4 c = search needs
 
 returns-3 : tie.Need-returns-3
 returns-3 c =
@@ -87,20 +51,20 @@ pub take-message-spec : {M : Type 1} → statement M
 take-message-spec =
     tie.close
     (tie.spec
-    message-drop-requires
+    (λ c κs. search needs)
     returns
-    sub-is-repeat
-    part-is-repeat-start
-    part-is-repeat-end
+    (λ c. search needs)
+    (λ c. search needs)
+    (λ c. search needs)
     is-repeat-requires
-    sub-recall
-    part-recall-start
-    part-recall-end
-    recall-requires
+    (λ c. search needs)
+    (λ c. search needs)
+    (λ c. search needs)
+    (λ c κs. search needs)
     answer-anew-requires
-    same-length
-    same-length-2
+    (λ c. search needs)
+    (λ c. search needs)
     returns-2
-    same-length-3
-    same-length-4
+    (λ c. search needs)
+    (λ c. search needs)
     returns-3)

@@ -14,23 +14,8 @@ use Rattle.get_command.proofs.get_at.Reads as get-at-reads
 use Rattle.octets.proofs.number_at.Reads as number-at-reads
 use Rattle.table.proofs.instances.locate.Reads as locate-reads
 
-number-at-requires : tie.Need-number-at-requires
-number-at-requires c κs = search needs
-
-sub-b : tie.Need-sub-b
-sub-b c = search needs
-
-part-b-start : tie.Need-part-b-start
-part-b-start c = search needs
-
-part-b-end : tie.Need-part-b-end
-part-b-end c = search needs
-
 locate-requires : tie.Need-locate-requires
 locate-requires c κs = let f = c .before .before .before .before .before in live-shaped (f .args .product) (f .args .store .now) (f .pre .0)
-
-enum-known-found : tie.Need-enum-known-found
-enum-known-found c = search needs
 
 get-at-requires : tie.Need-get-at-requires
 get-at-requires c κs =
@@ -38,14 +23,8 @@ get-at-requires c κs =
     let spot = sym (c .before .before .before .before .locate .ensures) ∙ ap found-of (c .before .before .found .given .1) in
     (live-shaped (f .args .product) (f .args .store .now) (f .pre .0), spot, f .pre .2)
 
-enum-told : tie.Need-enum-told
-enum-told c = search needs
-
 slice-write-out : tie.Need-slice-write-out
 slice-write-out c = let l = zeros-long (c .before .before .before .before .before .before .before .before .pre .2) in omega arith
-
-same-length : tie.Need-same-length
-same-length c = search needs
 
 returns : tie.Need-returns
 returns c =
@@ -55,9 +34,6 @@ returns c =
     let asked = c .before .before .before .before .before .before .before .before .before .number-at .ensures in
     c .before .before .get-at .ensures
     ∙ ap (fill 32) (there (a .product) (a .store .now) (f .pre .0) (a .class) (a .number) (f .fits .number .fits) (a .v .now) spot asked)
-
-same-length-2 : tie.Need-same-length-2
-same-length-2 c = search needs
 
 returns-2 : tie.Need-returns-2
 returns-2 c =
@@ -71,16 +47,16 @@ pub get-spec : {M : Type 1} → statement M
 get-spec =
     tie.close
     (tie.spec
-    number-at-requires
-    sub-b
-    part-b-start
-    part-b-end
+    (λ c κs. search needs)
+    (λ c. search needs)
+    (λ c. search needs)
+    (λ c. search needs)
     locate-requires
-    enum-known-found
+    (λ c. search needs)
     get-at-requires
-    enum-told
+    (λ c. search needs)
     slice-write-out
-    same-length
+    (λ c. search needs)
     returns
-    same-length-2
+    (λ c. search needs)
     returns-2)

@@ -13,12 +13,6 @@ use Rattle.get_command.proofs.get_refusal.Reads as get-refusal-reads
 use Rattle.get_command.proofs.refuse.Reads as refuse-reads
 use Rattle.get_command.proofs.show.Reads as show-reads
 
-get-refusal-requires : tie.Need-get-refusal-requires
-get-refusal-requires c κs = search needs
-
-enum-told : tie.Need-enum-told
-enum-told c = search needs
-
 show-requires : tie.Need-show-requires
 show-requires c κs =
     let f = c .before .before .before .before .before .before in
@@ -26,20 +20,8 @@ show-requires c κs =
     let r = c .before .before .before .get-refusal .ensures in
     (packable (a .product) (a .b .now) (a .class) (a .number) (a .at) (a .asked) r (c .before .enum-told .given .1) (f .pre .0) (f .pre .1), f .pre .2)
 
-enum-known-refusal : tie.Need-enum-known-refusal
-enum-known-refusal c = search needs
-
 slice-write-out : tie.Need-slice-write-out
 slice-write-out c = let l = zeros-long (c .before .before .before .before .before .before .pre .2) in omega arith
-
-enum-known-refusal-2 : tie.Need-enum-known-refusal-2
-enum-known-refusal-2 c = search needs
-
-refuse-requires : tie.Need-refuse-requires
-refuse-requires c κs = search needs
-
-same-length : tie.Need-same-length
-same-length c = search needs
 
 returns : tie.Need-returns
 returns c =
@@ -48,18 +30,12 @@ returns c =
     let r = c .before .before .before .before .before .before .get-refusal .ensures in
     c .before .before .show .ensures ∙ ap (fill 32) (as-told (a .product) (a .b .now) (a .class) (a .number) (a .at) (a .asked) r (c .before .before .before .before .enum-told .given .1))
 
-same-length-2 : tie.Need-same-length-2
-same-length-2 c = search needs
-
 returns-2 : tie.Need-returns-2
 returns-2 c =
     let f = c .before .before .before .before .before .before in
     let a = f .args in
     let r = c .before .before .before .get-refusal .ensures in
     result-alone (a .out .now) _ (f .pre .2) ∙ ap (fill 32) (as-told (a .product) (a .b .now) (a .class) (a .number) (a .at) (a .asked) r (c .before .refusal .given .1))
-
-same-length-3 : tie.Need-same-length-3
-same-length-3 c = search needs
 
 returns-3 : tie.Need-returns-3
 returns-3 c =
@@ -72,16 +48,16 @@ pub get-at-spec : {M : Type 1} → statement M
 get-at-spec =
     tie.close
     (tie.spec
-    get-refusal-requires
-    enum-told
+    (λ c κs. search needs)
+    (λ c. search needs)
     show-requires
-    enum-known-refusal
+    (λ c. search needs)
     slice-write-out
-    enum-known-refusal-2
-    refuse-requires
-    same-length
+    (λ c. search needs)
+    (λ c κs. search needs)
+    (λ c. search needs)
     returns
-    same-length-2
+    (λ c. search needs)
     returns-2
-    same-length-3
+    (λ c. search needs)
     returns-3)

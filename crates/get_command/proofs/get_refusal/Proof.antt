@@ -10,14 +10,8 @@ use Rattle.mask_tests.proofs.unsupported.Reads as unsupported-reads
 returns : tie.Need-returns
 returns c = refused-empty _ _ (c .if1 .taken)
 
-unsupported-requires : tie.Need-unsupported-requires
-unsupported-requires c κs = search needs
-
 returns-2 : tie.Need-returns-2
 returns-2 c = refused-missing _ _ (c .before .before .if1 .left) (c .before .unsupported .ensures) (c .if2 .taken)
-
-total-size-requires : tie.Need-total-size-requires
-total-size-requires c κs = search needs
 
 returns-3 : tie.Need-returns-3
 returns-3 c =
@@ -32,4 +26,4 @@ returns-4 c =
 pub get-refusal-spec : {M : Type 1} → statement M
 get-refusal-spec =
     tie.close
-    (tie.spec returns unsupported-requires returns-2 total-size-requires returns-3 returns-4)
+    (tie.spec returns (λ c κs. search needs) returns-2 (λ c κs. search needs) returns-3 returns-4)

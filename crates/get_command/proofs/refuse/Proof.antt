@@ -14,13 +14,10 @@ slice-write-out c = let l = zeros-long (c .before .pre) in omega arith
 put-number-requires : tie.Need-put-number-requires
 put-number-requires c κs = let l = zeros-long (c .before .before .pre) in simp length-set (omega arith)
 
-same-length : tie.Need-same-length
-same-length c = search needs
-
 returns : tie.Need-returns
 returns c =
     let s = c .before .before .before .before .before in
     mask-named (s .args .out .now) (c .before .before .put-number .last .0) (s .args .missing) (s .pre) (c .before .before .put-number .ensures)
 
 pub refuse-spec : {M : Type 1} → statement M
-refuse-spec = tie.close (tie.spec slice-write-out put-number-requires same-length returns)
+refuse-spec = tie.close (tie.spec slice-write-out put-number-requires (λ c. search needs) returns)

@@ -11,24 +11,12 @@ use Rattle.attribute_read.proofs.pack.Reads as pack-reads
 put-number-requires : tie.Need-put-number-requires
 put-number-requires c κs = let l = zeros-long (c .before .before .before .pre .1) in omega arith
 
-sub-pack : tie.Need-sub-pack
-sub-pack c = search needs
-
-part-pack-start : tie.Need-part-pack-start
-part-pack-start c = search needs
-
 part-pack-end : tie.Need-part-pack-end
 part-pack-end c =
     let s = c .before .before .before .before .before .before in
     let p = c .before .before .put-number in
     let l = mask-long (s .args .out .now) (p .last .0) (s .args .asked) (s .pre .1) (p .ensures) in
     omega arith
-
-pack-requires : tie.Need-pack-requires
-pack-requires c κs = search needs
-
-same-length : tie.Need-same-length
-same-length c = search needs
 
 returns : tie.Need-returns
 returns c =
@@ -43,9 +31,9 @@ show-spec =
     tie.close
     (tie.spec
     put-number-requires
-    sub-pack
-    part-pack-start
+    (λ c. search needs)
+    (λ c. search needs)
     part-pack-end
-    pack-requires
-    same-length
+    (λ c κs. search needs)
+    (λ c. search needs)
     returns)

@@ -7,21 +7,9 @@ use Rattle.gwezhelin.proofs.gwz_handle.Lts as lts
 use Rattle.engine.proofs.handle.Reads as handle-reads
 use Rattle.gwezhelin.proofs.number.Reads as number-reads
 
-handle-requires : tie.Need-handle-requires
-handle-requires c κs = search needs
-
-number-requires : tie.Need-number-requires
-number-requires c κs = search needs
-
-same-length : tie.Need-same-length
-same-length c = search needs
-
-same-length-2 : tie.Need-same-length-2
-same-length-2 c = search needs
-
 returns : tie.Need-returns
 returns c = told (c .before .before .before .before .before .handle .result) _ _ _ _ (c .number .ensures) (c .before .before .before .before .before .handle .ensures)
 
 pub gwz-handle-spec : {M : Type 1} → statement M
 gwz-handle-spec =
-    tie.close (tie.spec handle-requires number-requires same-length same-length-2 returns)
+    tie.close (tie.spec (λ c κs. search needs) (λ c κs. search needs) (λ c. search needs) (λ c. search needs) returns)

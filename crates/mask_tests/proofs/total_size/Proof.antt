@@ -23,20 +23,11 @@ abbrev μ-loop : tie.MeasureT-loop
 loop-holds : tie.Need-loop-holds Inv-loop μ-loop
 loop-holds c = nothing-walked _ _
 
-first-named-requires : tie.Need-first-named-requires Inv-loop μ-loop
-first-named-requires c κs = search needs
-
-attribute-of-requires : tie.Need-attribute-of-requires Inv-loop μ-loop
-attribute-of-requires c κs = search needs
-
 add-sum : tie.Need-add-sum Inv-loop μ-loop
 add-sum c =
     let z = next-small _ _ (c .before .before .before .before .loop .inv) (c .before .before .first-named .ensures) in
     let e = size-is (described (c .before .attribute-of .ensures)) in
     omega arith
-
-bit-of-requires : tie.Need-bit-of-requires Inv-loop μ-loop
-bit-of-requires c κs = search needs
 
 sub-left : tie.Need-sub-left Inv-loop μ-loop
 sub-left c = bit-in (c .before .before .before .first-named .ensures) (c .bit-of .ensures)
@@ -59,10 +50,10 @@ total-size-spec =
     Inv-loop
     μ-loop
     loop-holds
-    first-named-requires
-    attribute-of-requires
+    (λ c κs. search needs)
+    (λ c κs. search needs)
     add-sum
-    bit-of-requires
+    (λ c κs. search needs)
     sub-left
     loop-less
     loop-again

@@ -8,12 +8,6 @@ use Rattle.mask_tests.proofs.unsupported.Lts as lts
 use Rattle.bits.proofs.without.Reads as without-reads
 use Rattle.class_tables.proofs.masks.supported_mask.Reads as supported-mask-reads
 
-supported-mask-requires : tie.Need-supported-mask-requires
-supported-mask-requires c κs = search needs
-
-without-requires : tie.Need-without-requires
-without-requires c κs = search needs
-
 returns : tie.Need-returns
 returns c =
     let a = c .before .before .args in
@@ -21,4 +15,4 @@ returns c =
     unsupported-is (a .product) (a .class) (a .asked) (c .before .supported-mask .result) (search needs) (search needs) (c .before .supported-mask .ensures)
 
 pub unsupported-spec : {M : Type 1} → statement M
-unsupported-spec = tie.close (tie.spec supported-mask-requires without-requires returns)
+unsupported-spec = tie.close (tie.spec (λ c κs. search needs) (λ c κs. search needs) returns)

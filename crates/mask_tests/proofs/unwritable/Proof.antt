@@ -12,18 +12,6 @@ use Rattle.bits.proofs.without.Reads as without-reads
 use Rattle.class_tables.proofs.masks.supported_mask.Reads as supported-mask-reads
 use Rattle.class_tables.proofs.masks.writable_mask.Reads as writable-mask-reads
 
-supported-mask-requires : tie.Need-supported-mask-requires
-supported-mask-requires c κs = search needs
-
-common-requires : tie.Need-common-requires
-common-requires c κs = search needs
-
-writable-mask-requires : tie.Need-writable-mask-requires
-writable-mask-requires c κs = search needs
-
-without-requires : tie.Need-without-requires
-without-requires c κs = search needs
-
 returns : tie.Need-returns
 returns c =
     let a = c .before .before .before .before .args in
@@ -36,8 +24,8 @@ pub unwritable-spec : {M : Type 1} → statement M
 unwritable-spec =
     tie.close
     (tie.spec
-    supported-mask-requires
-    common-requires
-    writable-mask-requires
-    without-requires
+    (λ c κs. search needs)
+    (λ c κs. search needs)
+    (λ c κs. search needs)
+    (λ c κs. search needs)
     returns)

@@ -10,33 +10,6 @@ use Rattle.message_frame.proofs.begin.Lts as lts
 use Rattle.message_frame.proofs.put_header.Reads as put-header-reads
 use Rattle.message_frame.proofs.put_rest.Reads as put-rest-reads
 
-sub-put-header : tie.Need-sub-put-header
-sub-put-header c = search needs
-
-part-put-header-start : tie.Need-part-put-header-start
-part-put-header-start c = search needs
-
-part-put-header-end : tie.Need-part-put-header-end
-part-put-header-end c = search needs
-
-put-header-requires : tie.Need-put-header-requires
-put-header-requires c κs = search needs
-
-sub-put-rest : tie.Need-sub-put-rest
-sub-put-rest c = search needs
-
-part-put-rest-start : tie.Need-part-put-rest-start
-part-put-rest-start c = search needs
-
-part-put-rest-end : tie.Need-part-put-rest-end
-part-put-rest-end c = search needs
-
-put-rest-requires : tie.Need-put-rest-requires
-put-rest-requires c κs = search needs
-
-same-length : tie.Need-same-length
-same-length c = search needs
-
 returns : tie.Need-returns
 unfolding bytes
 returns c =
@@ -51,13 +24,13 @@ pub begin-spec : {M : Type 1} → statement M
 begin-spec =
     tie.close
     (tie.spec
-    sub-put-header
-    part-put-header-start
-    part-put-header-end
-    put-header-requires
-    sub-put-rest
-    part-put-rest-start
-    part-put-rest-end
-    put-rest-requires
-    same-length
+    (λ c. search needs)
+    (λ c. search needs)
+    (λ c. search needs)
+    (λ c κs. search needs)
+    (λ c. search needs)
+    (λ c. search needs)
+    (λ c. search needs)
+    (λ c κs. search needs)
+    (λ c. search needs)
     returns)

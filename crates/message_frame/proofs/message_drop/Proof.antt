@@ -11,23 +11,11 @@ use Rattle.message_frame.proofs.has_trailer.Reads as has-trailer-reads
 returns : tie.Need-returns
 returns c = drop-3 (c .before .before .args .m .now) (c .if1 .taken)
 
-shared-slice-read-if2 : tie.Need-shared-slice-read-if2
-shared-slice-read-if2 c = search needs
-
 returns-2 : tie.Need-returns-2
 returns-2 c = drop-4 (c .before .before .before .before .args .m .now) (c .before .before .if1 .left) (c .if2 .taken)
 
-shared-slice-read-if3 : tie.Need-shared-slice-read-if3
-shared-slice-read-if3 c = search needs
-
 returns-3 : tie.Need-returns-3
 returns-3 c = drop-5 (c .before .before .before .before .before .before .args .m .now) (c .before .before .before .before .if1 .left) (c .before .before .if2 .left) (c .if3 .taken)
-
-shared-slice-read-if4 : tie.Need-shared-slice-read-if4
-shared-slice-read-if4 c = search needs
-
-shared-slice-read-if4-2 : tie.Need-shared-slice-read-if4-2
-shared-slice-read-if4-2 c = search needs
 
 returns-4 : tie.Need-returns-4
 returns-4 c =
@@ -36,9 +24,6 @@ returns-4 c =
     let at-if1 = at-if2 .before .before in
     let entry = at-if1 .before .before in
     drop-6 (entry .args .m .now) (at-if1 .if1 .left) (at-if2 .if2 .left) (at-if3 .if3 .left) (c .if4 .taken)
-
-has-trailer-requires : tie.Need-has-trailer-requires
-has-trailer-requires c κs = search needs
 
 returns-5 : tie.Need-returns-5
 returns-5 c =
@@ -63,13 +48,13 @@ message-drop-spec =
     tie.close
     (tie.spec
     returns
-    shared-slice-read-if2
+    (λ c. search needs)
     returns-2
-    shared-slice-read-if3
+    (λ c. search needs)
     returns-3
-    shared-slice-read-if4
-    shared-slice-read-if4-2
+    (λ c. search needs)
+    (λ c. search needs)
     returns-4
-    has-trailer-requires
+    (λ c κs. search needs)
     returns-5
     returns-6)

@@ -9,50 +9,17 @@ use Rattle.message_frame.proofs.put_header.Lts as lts
 use Rattle.octets.proofs.high.Reads as high-reads
 use Rattle.octets.proofs.low.Reads as low-reads
 
-high-requires : tie.Need-high-requires
-high-requires c κs = search needs
-
-slice-write-h : tie.Need-slice-write-h
-slice-write-h c = search needs
-
-low-requires : tie.Need-low-requires
-low-requires c κs = search needs
-
-slice-write-h-2 : tie.Need-slice-write-h-2
-slice-write-h-2 c = search needs
-
-slice-write-h-3 : tie.Need-slice-write-h-3
-slice-write-h-3 c = search needs
-
-slice-write-h-4 : tie.Need-slice-write-h-4
-slice-write-h-4 c = search needs
-
-high-requires-2 : tie.Need-high-requires-2
-high-requires-2 c κs = search needs
-
 slice-write-h-5 : tie.Need-slice-write-h-5
 slice-write-h-5 c = simp length-set (search needs)
-
-low-requires-2 : tie.Need-low-requires-2
-low-requires-2 c κs = search needs
 
 slice-write-h-6 : tie.Need-slice-write-h-6
 slice-write-h-6 c = simp length-set (search needs)
 
-high-requires-3 : tie.Need-high-requires-3
-high-requires-3 c κs = search needs
-
 slice-write-h-7 : tie.Need-slice-write-h-7
 slice-write-h-7 c = simp length-set (search needs)
 
-low-requires-3 : tie.Need-low-requires-3
-low-requires-3 c κs = search needs
-
 slice-write-h-8 : tie.Need-slice-write-h-8
 slice-write-h-8 c = simp length-set (search needs)
-
-same-length : tie.Need-same-length
-same-length c = search needs
 
 returns : tie.Need-returns
 returns c =
@@ -75,19 +42,19 @@ pub put-header-spec : {M : Type 1} → statement M
 put-header-spec =
     tie.close
     (tie.spec
-    high-requires
-    slice-write-h
-    low-requires
-    slice-write-h-2
-    slice-write-h-3
-    slice-write-h-4
-    high-requires-2
+    (λ c κs. search needs)
+    (λ c. search needs)
+    (λ c κs. search needs)
+    (λ c. search needs)
+    (λ c. search needs)
+    (λ c. search needs)
+    (λ c κs. search needs)
     slice-write-h-5
-    low-requires-2
+    (λ c κs. search needs)
     slice-write-h-6
-    high-requires-3
+    (λ c κs. search needs)
     slice-write-h-7
-    low-requires-3
+    (λ c κs. search needs)
     slice-write-h-8
-    same-length
+    (λ c. search needs)
     returns)

@@ -7,29 +7,8 @@ use Rattle.remembered_command.proofs.remember.Reads as reads
 use Rattle.remembered_command.proofs.remember.Lts as lts
 use Rattle.octets.proofs.copy_in.Reads as copy-in-reads
 
-slice-write-memory : tie.Need-slice-write-memory
-slice-write-memory c = search needs
-
-sub-copy-in : tie.Need-sub-copy-in
-sub-copy-in c = search needs
-
-part-copy-in-start : tie.Need-part-copy-in-start
-part-copy-in-start c = search needs
-
-part-copy-in-end : tie.Need-part-copy-in-end
-part-copy-in-end c = search needs
-
 copy-in-requires : tie.Need-copy-in-requires
 copy-in-requires c κs = simp (length-take, length-set) (search needs)
-
-sub-copy-in-2 : tie.Need-sub-copy-in-2
-sub-copy-in-2 c = search needs
-
-part-copy-in-start-2 : tie.Need-part-copy-in-start-2
-part-copy-in-start-2 c = search needs
-
-part-copy-in-end-2 : tie.Need-part-copy-in-end-2
-part-copy-in-end-2 c = search needs
 
 copy-in-requires-2 : tie.Need-copy-in-requires-2
 copy-in-requires-2 c κs =
@@ -56,14 +35,14 @@ pub remember-spec : {M : Type 1} → statement M
 remember-spec =
     tie.close
     (tie.spec
-    slice-write-memory
-    sub-copy-in
-    part-copy-in-start
-    part-copy-in-end
+    (λ c. search needs)
+    (λ c. search needs)
+    (λ c. search needs)
+    (λ c. search needs)
     copy-in-requires
-    sub-copy-in-2
-    part-copy-in-start-2
-    part-copy-in-end-2
+    (λ c. search needs)
+    (λ c. search needs)
+    (λ c. search needs)
     copy-in-requires-2
     same-length
     returns)

@@ -12,26 +12,14 @@ Inv-loop b₀ pr every n j₀ t8 b j = Begun pr every b₀ b j
 abbrev μ-loop : tie.MeasureT-loop
 μ-loop b₀ pr every n j₀ t8 b j = n - j
 
-slots-requires : tie.Need-slots-requires Inv-loop μ-loop
-slots-requires c κs = search needs
-
 loop-holds : tie.Need-loop-holds Inv-loop μ-loop
 loop-holds c = none-begun _ _ _
-
-slot-instance-requires : tie.Need-slot-instance-requires Inv-loop μ-loop
-slot-instance-requires c κs = search needs
 
 mul-lay-firsts : tie.Need-mul-lay-firsts Inv-loop μ-loop
 mul-lay-firsts c = let f = few-slots (c .before .before .before .before .before .before .args .product) in omega arith
 
 add-lay-firsts : tie.Need-add-lay-firsts Inv-loop μ-loop
 add-lay-firsts c = let f = few-slots (c .before .before .before .before .before .before .args .product) in omega arith
-
-begun-requires : tie.Need-begun-requires Inv-loop μ-loop
-begun-requires c κs = search needs
-
-slice-aggregate-lay-firsts : tie.Need-slice-aggregate-lay-firsts Inv-loop μ-loop
-slice-aggregate-lay-firsts c = search needs
 
 lay-firsts-requires : tie.Need-lay-firsts-requires Inv-loop μ-loop
 lay-firsts-requires c κs =
@@ -40,12 +28,6 @@ lay-firsts-requires c κs =
     let z = i .slot-instance .ok in
     slot-may _ _ (i .slot-instance .result .class) (i .slot-instance .result .number) (l .loop .inv) (l .before .before .before .pre)
     (search needs) (omega arith) (i .slot-instance .ensures) (c .before .begun .ensures)
-
-add-j : tie.Need-add-j Inv-loop μ-loop
-add-j c = search needs
-
-loop-less : tie.Need-loop-less Inv-loop μ-loop
-loop-less c = search needs
 
 loop-again : tie.Need-loop-again Inv-loop μ-loop
 loop-again c =
@@ -67,16 +49,16 @@ begin-slots-spec =
     (tie.spec
     Inv-loop
     μ-loop
-    slots-requires
+    (λ c κs. search needs)
     loop-holds
-    slot-instance-requires
+    (λ c κs. search needs)
     mul-lay-firsts
     add-lay-firsts
-    begun-requires
-    slice-aggregate-lay-firsts
+    (λ c κs. search needs)
+    (λ c. search needs)
     lay-firsts-requires
-    add-j
-    loop-less
+    (λ c. search needs)
+    (λ c. search needs)
     loop-again
     same-length
     returns)

@@ -2,12 +2,6 @@ use borrow.Author.Needs.{needs}
 use Rattle.reset_command.proofs.begun.Statement.{statement}
 use Rattle.reset_command.proofs.begun.Tie as tie
 
-stored-mask-requires : tie.Need-stored-mask-requires
-stored-mask-requires c κs = search needs
-
-writable-mask-requires : tie.Need-writable-mask-requires
-writable-mask-requires c κs = search needs
-
 returns : tie.Need-returns
 returns c = rw (c .before .if1 .taken) (c .stored-mask .ensures)
 
@@ -15,4 +9,4 @@ returns-2 : tie.Need-returns-2
 returns-2 c = rw (c .before .if1 .left) (c .writable-mask .ensures)
 
 pub begun-spec : {M : Type 1} → statement M
-begun-spec = tie.close (tie.spec stored-mask-requires writable-mask-requires returns returns-2)
+begun-spec = tie.close (tie.spec (λ c κs. search needs) (λ c κs. search needs) returns returns-2)

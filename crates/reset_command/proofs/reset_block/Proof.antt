@@ -7,12 +7,6 @@ use borrow.Author.Needs.{needs}
 use Rattle.reset_command.proofs.reset_block.Statement.{statement}
 use Rattle.reset_command.proofs.reset_block.Tie as tie
 
-slice-write-b : tie.Need-slice-write-b
-slice-write-b c = search needs
-
-slice-write-b-2 : tie.Need-slice-write-b-2
-slice-write-b-2 c = search needs
-
 begin-slots-requires : tie.Need-begin-slots-requires
 begin-slots-requires c κs = simp length-set (search needs)
 
@@ -29,12 +23,6 @@ part-zero-start c =
     let e : length (c .before .before .begin-slots .last .0) ≡ length (set (set b 0 0) in-use-at 0) = search needs in
     let g : length (set (set b 0 0) in-use-at 0) ≡ length b = simp length-set in
     omega arith
-
-part-zero-end : tie.Need-part-zero-end
-part-zero-end c = search needs
-
-zero-requires : tie.Need-zero-requires
-zero-requires c κs = search needs
 
 same-length : tie.Need-same-length
 same-length c =
@@ -58,12 +46,12 @@ pub reset-block-spec : {M : Type 1} → statement M
 reset-block-spec =
     tie.close
     (tie.spec
-    slice-write-b
-    slice-write-b-2
+    (λ c. search needs)
+    (λ c. search needs)
     begin-slots-requires
     sub-zero
     part-zero-start
-    part-zero-end
-    zero-requires
+    (λ c. search needs)
+    (λ c κs. search needs)
     same-length
     returns)

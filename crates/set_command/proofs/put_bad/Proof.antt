@@ -19,11 +19,8 @@ put-number-requires c κs =
     let n : length (c .before .before .args .out .now) ≡ 32 = ap length (c .before .before .pre) in
     simp length-set (omega arith)
 
-same-length : tie.Need-same-length
-same-length c = search needs
-
 returns : tie.Need-returns
 returns c = put-bad-is _ _ (c .before .before .before .before .before .pre) (c .before .before .put-number .ensures)
 
 pub put-bad-spec : {M : Type 1} → statement M
-put-bad-spec = tie.close (tie.spec slice-write-out put-number-requires same-length returns)
+put-bad-spec = tie.close (tie.spec slice-write-out put-number-requires (λ c. search needs) returns)

@@ -25,9 +25,6 @@ put-number-requires-2 c κs =
     let n = half-failed (f .args .out .now) (f .args .missing) (f .pre) (c .before .before .before .put-number .ensures) in
     omega arith
 
-same-length : tie.Need-same-length
-same-length c = search needs
-
 returns : tie.Need-returns
 returns c =
     let x = c .before .before .before .before .before .before in
@@ -36,4 +33,4 @@ returns c =
 pub put-failed-spec : {M : Type 1} → statement M
 put-failed-spec =
     tie.close
-    (tie.spec slice-write-out put-number-requires put-number-requires-2 same-length returns)
+    (tie.spec slice-write-out put-number-requires put-number-requires-2 (λ c. search needs) returns)

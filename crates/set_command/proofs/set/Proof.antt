@@ -13,23 +13,11 @@ use Rattle.set_command.proofs.set.Lts as lts
 use Rattle.table.proofs.instances.locate.Reads as locate-reads
 use Rattle.set_command.proofs.set_at.Reads as set-at-reads
 
-sub-locate : tie.Need-sub-locate
-sub-locate c = search needs
-
-part-locate-start : tie.Need-part-locate-start
-part-locate-start c = search needs
-
-part-locate-end : tie.Need-part-locate-end
-part-locate-end c = search needs
-
 locate-requires : tie.Need-locate-requires
 locate-requires c κs =
     let f = c .before .before .before .before .before in
     let a = f .args in
     live-shaped (a .product) (a .store .now) (f .pre .0)
-
-enum-known-found : tie.Need-enum-known-found
-enum-known-found c = search needs
 
 set-at-requires : tie.Need-set-at-requires
 set-at-requires c κs =
@@ -41,21 +29,12 @@ set-at-requires c κs =
     (c .before .before .before .before .before .locate .ensures) ∙ ap found-of (c .before .before .before .found .given .1)) in
     (f .pre .0 .long, shape, omega arith, f .pre .1, f .pre .2)
 
-enum-told : tie.Need-enum-told
-enum-told c = search needs
-
 slice-write-out : tie.Need-slice-write-out
 slice-write-out c =
     let f = c .before .before .before .before .before .before .before .before in
     let a = f .args in
     let n : length (a .out .now) ≡ 32 = ap length (f .pre .2) in
     search needs
-
-same-length : tie.Need-same-length
-same-length c = search needs
-
-same-length-2 : tie.Need-same-length-2
-same-length-2 c = search needs
 
 returns : tie.Need-returns
 returns c =
@@ -69,12 +48,6 @@ returns c =
     (a .v .now) (f .pre .1) (known-bytes (a .v .now) (λ i. k .shared-slice-known .given i .fits))
     (c .before .before .before .before .set-at .ensures)
 
-same-length-3 : tie.Need-same-length-3
-same-length-3 c = search needs
-
-same-length-4 : tie.Need-same-length-4
-same-length-4 c = search needs
-
 returns-2 : tie.Need-returns-2
 returns-2 c =
     let f = c .before .before .before .before .before .before .before .before in
@@ -87,17 +60,17 @@ pub set-spec : {M : Type 1} → statement M
 set-spec =
     tie.close
     (tie.spec
-    sub-locate
-    part-locate-start
-    part-locate-end
+    (λ c. search needs)
+    (λ c. search needs)
+    (λ c. search needs)
     locate-requires
-    enum-known-found
+    (λ c. search needs)
     set-at-requires
-    enum-told
+    (λ c. search needs)
     slice-write-out
-    same-length
-    same-length-2
+    (λ c. search needs)
+    (λ c. search needs)
     returns
-    same-length-3
-    same-length-4
+    (λ c. search needs)
+    (λ c. search needs)
     returns-2)

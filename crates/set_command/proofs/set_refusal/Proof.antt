@@ -14,18 +14,9 @@ returns : tie.Need-returns
 unfolding refusing
 returns c = refused-empty _ _ _ (c .if1 .taken)
 
-unsupported-requires : tie.Need-unsupported-requires
-unsupported-requires c κs = search needs
-
-unwritable-requires : tie.Need-unwritable-requires
-unwritable-requires c κs = search needs
-
 returns-2 : tie.Need-returns-2
 unfolding refusing
 returns-2 c = refused-failed _ _ _ (c .before .before .before .if1 .left) (c .before .before .unsupported .ensures) (c .before .unwritable .ensures) (c .if2 .taken)
-
-total-size-requires : tie.Need-total-size-requires
-total-size-requires c κs = search needs
 
 returns-3 : tie.Need-returns-3
 unfolding refusing
@@ -33,9 +24,6 @@ returns-3 c =
     let w = c .before .before .before in
     refused-long _ _ _ (w .before .before .if1 .left) (w .before .unsupported .ensures) (w .unwritable .ensures) (c .before .before .if2 .left)
     (c .before .total-size .ensures) (c .if3 .taken)
-
-bad-mask-requires : tie.Need-bad-mask-requires
-bad-mask-requires c κs = search needs
 
 returns-4 : tie.Need-returns-4
 unfolding refusing
@@ -58,11 +46,11 @@ set-refusal-spec =
     tie.close
     (tie.spec
     returns
-    unsupported-requires
-    unwritable-requires
+    (λ c κs. search needs)
+    (λ c κs. search needs)
     returns-2
-    total-size-requires
+    (λ c κs. search needs)
     returns-3
-    bad-mask-requires
+    (λ c κs. search needs)
     returns-4
     returns-5)

@@ -7,24 +7,12 @@ use Rattle.set_command.proofs.write_set.Lts as lts
 use Rattle.table.proofs.counter.move_counter.Reads as move-counter-reads
 use Rattle.attribute_write.proofs.lay_values.Reads as lay-values-reads
 
-lay-values-requires : tie.Need-lay-values-requires
-lay-values-requires c κs = search needs
-
-move-counter-requires : tie.Need-move-counter-requires
-move-counter-requires c κs = search needs
-
-same-length : tie.Need-same-length
-same-length c = search needs
-
 returns : tie.Need-returns
 returns c =
     let a = c .before .before .before .before .before .before .before .before .before .before .before .args in
     wrote-counted (a .product) (a .class) (a .at) (a .asked) (a .v .now) (a .b .now)
     (c .before .before .before .before .before .before .before .lay-values .ensures) (c .before .before .before .before .if1 .taken)
     (c .before .before .move-counter .ensures)
-
-same-length-2 : tie.Need-same-length-2
-same-length-2 c = search needs
 
 returns-2 : tie.Need-returns-2
 returns-2 c =
@@ -35,9 +23,9 @@ pub write-set-spec : {M : Type 1} → statement M
 write-set-spec =
     tie.close
     (tie.spec
-    lay-values-requires
-    move-counter-requires
-    same-length
+    (λ c κs. search needs)
+    (λ c κs. search needs)
+    (λ c. search needs)
     returns
-    same-length-2
+    (λ c. search needs)
     returns-2)

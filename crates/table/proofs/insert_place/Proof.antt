@@ -10,36 +10,6 @@ use Rattle.table.proofs.insert_place.Statement.{statement}
 use Rattle.table.proofs.insert_place.Tie as tie
 use Rattle.store.specs.Layout.{in-use-at, place-at}
 
-slice-read-n : tie.Need-slice-read-n
-slice-read-n c = search needs
-
-mul-a : tie.Need-mul-a
-mul-a c = search needs
-
-add-a : tie.Need-add-a
-add-a c = search needs
-
-sub-insert-front : tie.Need-sub-insert-front
-sub-insert-front c = search needs
-
-part-insert-front-start : tie.Need-part-insert-front-start
-part-insert-front-start c = search needs
-
-part-insert-front-end : tie.Need-part-insert-front-end
-part-insert-front-end c = search needs
-
-insert-front-requires : tie.Need-insert-front-requires
-insert-front-requires c κs = search needs
-
-add-b : tie.Need-add-b
-add-b c = search needs
-
-slice-write-b : tie.Need-slice-write-b
-slice-write-b c = search needs
-
-same-length : tie.Need-same-length
-same-length c = search needs
-
 returns : tie.Need-returns
 returns c =
     let a = c .before .before .before .before .before .before .before .args in
@@ -51,14 +21,14 @@ pub insert-place-spec : {M : Type 1} → statement M
 insert-place-spec =
     tie.close
     (tie.spec
-    slice-read-n
-    mul-a
-    add-a
-    sub-insert-front
-    part-insert-front-start
-    part-insert-front-end
-    insert-front-requires
-    add-b
-    slice-write-b
-    same-length
+    (λ c. search needs)
+    (λ c. search needs)
+    (λ c. search needs)
+    (λ c. search needs)
+    (λ c. search needs)
+    (λ c. search needs)
+    (λ c κs. search needs)
+    (λ c. search needs)
+    (λ c. search needs)
+    (λ c. search needs)
     returns)

@@ -8,36 +8,6 @@ use borrow.Author.Needs.{needs}
 use Rattle.table.proofs.remove_place.Statement.{statement}
 use Rattle.table.proofs.remove_place.Tie as tie
 
-slice-read-n : tie.Need-slice-read-n
-slice-read-n c = search needs
-
-mul-a : tie.Need-mul-a
-mul-a c = search needs
-
-add-a : tie.Need-add-a
-add-a c = search needs
-
-sub-remove-front : tie.Need-sub-remove-front
-sub-remove-front c = search needs
-
-part-remove-front-start : tie.Need-part-remove-front-start
-part-remove-front-start c = search needs
-
-part-remove-front-end : tie.Need-part-remove-front-end
-part-remove-front-end c = search needs
-
-remove-front-requires : tie.Need-remove-front-requires
-remove-front-requires c κs = search needs
-
-sub-b : tie.Need-sub-b
-sub-b c = search needs
-
-slice-write-b : tie.Need-slice-write-b
-slice-write-b c = search needs
-
-same-length : tie.Need-same-length
-same-length c = search needs
-
 returns : tie.Need-returns
 returns c =
     let a = c .before .before .before .before .before .before .args in
@@ -49,14 +19,14 @@ pub remove-place-spec : {M : Type 1} → statement M
 remove-place-spec =
     tie.close
     (tie.spec
-    slice-read-n
-    mul-a
-    add-a
-    sub-remove-front
-    part-remove-front-start
-    part-remove-front-end
-    remove-front-requires
-    sub-b
-    slice-write-b
-    same-length
+    (λ c. search needs)
+    (λ c. search needs)
+    (λ c. search needs)
+    (λ c. search needs)
+    (λ c. search needs)
+    (λ c. search needs)
+    (λ c κs. search needs)
+    (λ c. search needs)
+    (λ c. search needs)
+    (λ c. search needs)
     returns)

@@ -3,9 +3,6 @@ use borrow.Author.Needs.{needs}
 use Rattle.upload_sections.proofs.class_section.Statement.{statement}
 use Rattle.upload_sections.proofs.class_section.Tie as tie
 
-section-count-requires : tie.Need-section-count-requires
-section-count-requires c κs = search needs
-
 div-instance-at : tie.Need-div-instance-at
 div-instance-at c =
     let a = c .before .before .args in
@@ -22,9 +19,6 @@ rem-section-mask c =
     let a = c .before .before .before .args in
     some-each (a .product) (a .class) (a .b .now) (a .n) _ (c .before .section-count .ensures) (c .before .before .before .pre .1)
 
-section-mask-requires : tie.Need-section-mask-requires
-section-mask-requires c κs = search needs
-
 returns : tie.Need-returns
 returns c =
     let s = c .before .before .before .before in
@@ -37,9 +31,9 @@ pub class-section-spec : {M : Type 1} → statement M
 class-section-spec =
     tie.close
     (tie.spec
-    section-count-requires
+    (λ c κs. search needs)
     div-instance-at
     instance-at-requires
     rem-section-mask
-    section-mask-requires
+    (λ c κs. search needs)
     returns)

@@ -4,12 +4,6 @@ use borrow.Author.Needs.{needs}
 use Rattle.upload_sections.proofs.class_total.Statement.{statement}
 use Rattle.upload_sections.proofs.class_total.Tie as tie
 
-instance-count-requires : tie.Need-instance-count-requires
-instance-count-requires c κs = search needs
-
-section-count-requires : tie.Need-section-count-requires
-section-count-requires c κs = search needs
-
 mul-result : tie.Need-mul-result
 mul-result c =
     let a = c .before .before .before .args in
@@ -24,4 +18,4 @@ returns c =
 
 pub class-total-spec : {M : Type 1} → statement M
 class-total-spec =
-    tie.close (tie.spec instance-count-requires section-count-requires mul-result returns)
+    tie.close (tie.spec (λ c κs. search needs) (λ c κs. search needs) mul-result returns)

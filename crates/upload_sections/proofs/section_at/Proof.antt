@@ -19,22 +19,10 @@ Inv-loop b pr n last left₀ j₀ left j = (j ≤ last) × (nth (sections-on pr 
 abbrev μ-loop : tie.MeasureT-loop
 μ-loop b pr n last left₀ j₀ left j = last - j
 
-class-count-requires : tie.Need-class-count-requires Inv-loop μ-loop
-class-count-requires c κs = search needs
-
 loop-holds : tie.Need-loop-holds Inv-loop μ-loop
 loop-holds c =
     let a = c .before .before .args in
     (omega arith, ap (λ (k : List Section). nth k (a .n)) (all-sections (a .product) (a .b .now)))
-
-class-at-requires : tie.Need-class-at-requires Inv-loop μ-loop
-class-at-requires c κs = search needs
-
-class-total-requires : tie.Need-class-total-requires Inv-loop μ-loop
-class-total-requires c κs = search needs
-
-class-section-requires : tie.Need-class-section-requires Inv-loop μ-loop
-class-section-requires c κs = search needs
 
 returns : tie.Need-returns Inv-loop μ-loop
 returns c =
@@ -46,9 +34,6 @@ returns c =
           (l .loop .left) (l .loop .inv .1) (c .before .if1 .taken) (r .is);
       carries = r .carries;
     }
-
-add-j : tie.Need-add-j Inv-loop μ-loop
-add-j c = search needs
 
 loop-less : tie.Need-loop-less Inv-loop μ-loop
 loop-less c = omega arith
@@ -74,13 +59,13 @@ section-at-spec =
     (tie.spec
     Inv-loop
     μ-loop
-    class-count-requires
+    (λ c κs. search needs)
     loop-holds
-    class-at-requires
-    class-total-requires
-    class-section-requires
+    (λ c κs. search needs)
+    (λ c κs. search needs)
+    (λ c κs. search needs)
     returns
-    add-j
+    (λ c. search needs)
     loop-less
     loop-again
     returns-2)

@@ -16,17 +16,8 @@ Inv-loop b pr n total₀ j₀ total j = (j ≤ n) × (total ≤ (slot-count + pl
 abbrev μ-loop : tie.MeasureT-loop
 μ-loop b pr n total₀ j₀ total j = n - j
 
-class-count-requires : tie.Need-class-count-requires Inv-loop μ-loop
-class-count-requires c κs = search needs
-
 loop-holds : tie.Need-loop-holds Inv-loop μ-loop
 loop-holds c = (omega arith, omega arith, omega arith)
-
-class-at-requires : tie.Need-class-at-requires Inv-loop μ-loop
-class-at-requires c κs = search needs
-
-class-total-requires : tie.Need-class-total-requires Inv-loop μ-loop
-class-total-requires c κs = search needs
 
 add-total : tie.Need-add-total Inv-loop μ-loop
 add-total c =
@@ -35,9 +26,6 @@ add-total c =
     let classes = few-classes (a .product) in
     let few = class-few (a .product) (c .before .class-at .result) (a .b .now) (l .before .before .before .pre) in
     omega arith
-
-add-j : tie.Need-add-j Inv-loop μ-loop
-add-j c = search needs
 
 loop-less : tie.Need-loop-less Inv-loop μ-loop
 loop-less c = omega arith
@@ -64,12 +52,12 @@ section-total-spec =
     (tie.spec
     Inv-loop
     μ-loop
-    class-count-requires
+    (λ c κs. search needs)
     loop-holds
-    class-at-requires
-    class-total-requires
+    (λ c κs. search needs)
+    (λ c κs. search needs)
     add-total
-    add-j
+    (λ c. search needs)
     loop-less
     loop-again
     returns)

@@ -7,23 +7,8 @@ use borrow.Author.Needs.{needs}
 use Rattle.upload_walk.proofs.upload.Statement.{statement}
 use Rattle.upload_walk.proofs.upload.Tie as tie
 
-is-ont-data-requires : tie.Need-is-ont-data-requires
-is-ont-data-requires c κs = search needs
-
-sub-section-total : tie.Need-sub-section-total
-sub-section-total c = search needs
-
-part-section-total-start : tie.Need-part-section-total-start
-part-section-total-start c = search needs
-
-part-section-total-end : tie.Need-part-section-total-end
-part-section-total-end c = search needs
-
 section-total-requires : tie.Need-section-total-requires
 section-total-requires c κs = live-shaped _ _ (c .before .before .before .before .before .before .pre .0)
-
-freeze-requires : tie.Need-freeze-requires
-freeze-requires c κs = search needs
 
 cast-put-number : tie.Need-cast-put-number
 cast-put-number c =
@@ -34,12 +19,6 @@ cast-put-number c =
 
 put-number-requires : tie.Need-put-number-requires
 put-number-requires c κs = let z = ap length (c .before .before .before .before .before .before .before .before .before .before .before .before .pre .1) in omega arith
-
-same-length : tie.Need-same-length
-same-length c = search needs
-
-same-length-2 : tie.Need-same-length-2
-same-length-2 c = search needs
 
 returns : tie.Need-returns
 returns c =
@@ -62,15 +41,15 @@ pub upload-spec : {M : Type 1} → statement M
 upload-spec =
     tie.close
     (tie.spec
-    is-ont-data-requires
-    sub-section-total
-    part-section-total-start
-    part-section-total-end
+    (λ c κs. search needs)
+    (λ c. search needs)
+    (λ c. search needs)
+    (λ c. search needs)
     section-total-requires
-    freeze-requires
+    (λ c κs. search needs)
     cast-put-number
     put-number-requires
-    same-length
-    same-length-2
+    (λ c. search needs)
+    (λ c. search needs)
     returns
     returns-2)

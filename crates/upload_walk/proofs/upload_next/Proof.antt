@@ -7,35 +7,11 @@ use Rattle.upload_walk.proofs.upload_next.Statement.{statement}
 use Rattle.upload_walk.proofs.upload_next.Tie as tie
 use Rattle.store.specs.Layout.{upload-at}
 
-is-ont-data-requires : tie.Need-is-ont-data-requires
-is-ont-data-requires c κs = search needs
-
-shared-slice-read-if1 : tie.Need-shared-slice-read-if1
-shared-slice-read-if1 c = search needs
-
-number-at-requires : tie.Need-number-at-requires
-number-at-requires c κs = search needs
-
-cast-n : tie.Need-cast-n
-cast-n c = search needs
-
-sub-section-at : tie.Need-sub-section-at
-sub-section-at c = search needs
-
-part-section-at-start : tie.Need-part-section-at-start
-part-section-at-start c = search needs
-
-part-section-at-end : tie.Need-part-section-at-end
-part-section-at-end c = search needs
-
 section-at-requires : tie.Need-section-at-requires
 section-at-requires c κs =
     let s = c .before .before .before .before .before .before .before .before in
     let test = tested (c .before .before .before .before .is-ont-data .result) (getD (s .args .store .now) upload-at 0) (c .before .before .if1 .taken) in
     frozen-shape (s .args .product) (s .args .store .now) (s .pre .0) (test .1)
-
-enum-known-section : tie.Need-enum-known-section
-enum-known-section c = search needs
 
 show-requires : tie.Need-show-requires
 show-requires c κs =
@@ -47,12 +23,6 @@ show-requires c κs =
     let test = tested (asked .is-ont-data .result) (getD (a .store .now) upload-at 0) (told .before .before .before .if1 .taken) in
     let found = rw (section .section .given .1) at (told .section-at .ensures) in
     (showable (a .product) (a .store .now) (s .pre .0) (test .1) found, ap length (s .pre .2))
-
-enum-told : tie.Need-enum-told
-enum-told c = search needs
-
-same-length : tie.Need-same-length
-same-length c = search needs
 
 returns : tie.Need-returns
 returns c =
@@ -92,18 +62,18 @@ pub upload-next-spec : {M : Type 1} → statement M
 upload-next-spec =
     tie.close
     (tie.spec
-    is-ont-data-requires
-    shared-slice-read-if1
-    number-at-requires
-    cast-n
-    sub-section-at
-    part-section-at-start
-    part-section-at-end
+    (λ c κs. search needs)
+    (λ c. search needs)
+    (λ c κs. search needs)
+    (λ c. search needs)
+    (λ c. search needs)
+    (λ c. search needs)
+    (λ c. search needs)
     section-at-requires
-    enum-known-section
+    (λ c. search needs)
     show-requires
-    enum-told
-    same-length
+    (λ c. search needs)
+    (λ c. search needs)
     returns
     returns-2
     returns-3)

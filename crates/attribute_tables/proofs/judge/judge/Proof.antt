@@ -3,24 +3,6 @@ use borrow.Author.Needs.{needs}
 use Rattle.attribute_tables.proofs.judge.judge.Statement.{statement}
 use Rattle.attribute_tables.proofs.judge.judge.Tie as tie
 
-enum-told : tie.Need-enum-told
-enum-told c = search needs
-
-enum-known-rule : tie.Need-enum-known-rule
-enum-known-rule c = search needs
-
-fine-if-requires : tie.Need-fine-if-requires
-fine-if-requires c κs = search needs
-
-enum-known-rule-2 : tie.Need-enum-known-rule-2
-enum-known-rule-2 c = search needs
-
-fine-if-requires-2 : tie.Need-fine-if-requires-2
-fine-if-requires-2 c κs = search needs
-
-enum-known-rule-3 : tie.Need-enum-known-rule-3
-enum-known-rule-3 c = search needs
-
 returns : tie.Need-returns
 returns c = judged-any _ _ _ (c .enum-told .given .1)
 
@@ -40,12 +22,12 @@ pub judge-spec : {M : Type 1} → statement M
 judge-spec =
     tie.close
     (tie.spec
-    enum-told
-    enum-known-rule
-    fine-if-requires
-    enum-known-rule-2
-    fine-if-requires-2
-    enum-known-rule-3
+    (λ c. search needs)
+    (λ c. search needs)
+    (λ c κs. search needs)
+    (λ c. search needs)
+    (λ c κs. search needs)
+    (λ c. search needs)
     returns
     returns-2
     returns-3

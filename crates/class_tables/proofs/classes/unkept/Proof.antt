@@ -6,12 +6,6 @@ use Rattle.class_tables.proofs.EveryProduct.{otherwise-none}
 use Rattle.class_tables.proofs.classes.unkept.Statement.{statement}
 use Rattle.class_tables.proofs.classes.unkept.Tie as tie
 
-enum-told : tie.Need-enum-told
-enum-told c = search needs
-
-enum-told-2 : tie.Need-enum-told-2
-enum-told-2 c = search needs
-
 returns : tie.Need-returns
 returns c = rw (c .enum-told .given .1, c .before .before .match .keys1) (unfold computing-tables in refl)
 
@@ -22,4 +16,4 @@ returns-3 : tie.Need-returns-3
 returns-3 c = otherwise-none _ _ (47 ∷ []) (c .match .rest) (λ k. k .unkept) (unfold computing-tables in (refl, refl))
 
 pub unkept-spec : {M : Type 1} → statement M
-unkept-spec = tie.close (tie.spec enum-told enum-told-2 returns returns-2 returns-3)
+unkept-spec = tie.close (tie.spec (λ c. search needs) (λ c. search needs) returns returns-2 returns-3)

@@ -8,9 +8,6 @@ use borrow.Author.Needs.{needs}
 use Rattle.class_tables.proofs.slots.slot_of.Statement.{statement}
 use Rattle.class_tables.proofs.slots.slot_of.Tie as tie
 
-uni-slot-requires : tie.Need-uni-slot-requires
-uni-slot-requires c κs = search needs
-
 returns : tie.Need-returns
 returns c = rw (c .before .match .keys1) (c .uni-slot .ensures)
 
@@ -19,4 +16,4 @@ returns-2 c = let r = c .match .rest in no-slot (key 11 0x0101 ∷ key 11 0x0102
     ((((tt, λ e. r .1 (omega arith)), λ e. r .1 (omega arith)), λ e. r .1 (omega arith)), λ e. r .1 (omega arith)) (unfold computing-tables in refl)
 
 pub slot-of-spec : {M : Type 1} → statement M
-slot-of-spec = tie.close (tie.spec uni-slot-requires returns returns-2)
+slot-of-spec = tie.close (tie.spec (λ c κs. search needs) returns returns-2)

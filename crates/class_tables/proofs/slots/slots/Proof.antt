@@ -4,12 +4,6 @@ use Rattle.class_tables.specs.Computing.{computing-tables}
 use Rattle.class_tables.proofs.slots.slots.Statement.{statement}
 use Rattle.class_tables.proofs.slots.slots.Tie as tie
 
-enum-told : tie.Need-enum-told
-enum-told c = search needs
-
-enum-told-2 : tie.Need-enum-told-2
-enum-told-2 c = search needs
-
 returns : tie.Need-returns
 returns c = rw (c .enum-told .given .1) (unfold computing-tables in refl)
 
@@ -17,4 +11,4 @@ returns-2 : tie.Need-returns-2
 returns-2 c = rw (c .enum-told2 .given .1) (unfold computing-tables in refl)
 
 pub slots-spec : {M : Type 1} → statement M
-slots-spec = tie.close (tie.spec enum-told enum-told-2 returns returns-2)
+slots-spec = tie.close (tie.spec (λ c. search needs) (λ c. search needs) returns returns-2)

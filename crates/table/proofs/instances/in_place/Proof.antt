@@ -14,15 +14,6 @@ use Rattle.table.proofs.instances.in_place.Lts as lts
 use Rattle.octets.proofs.key_of.Reads as key-of-reads
 use Rattle.table.proofs.place_of.Reads as place-of-reads
 
-key-of-requires : tie.Need-key-of-requires
-key-of-requires c κs = search needs
-
-place-of-requires : tie.Need-place-of-requires
-place-of-requires c κs = search needs
-
-enum-known-found : tie.Need-enum-known-found
-enum-known-found c = search needs
-
 -- the last sum is the largest
 add-t12 : tie.Need-add-t12
 add-t12 c =
@@ -41,9 +32,6 @@ add-t10 c = let all = add-t12 c in omega arith
 add-t11 : tie.Need-add-t11
 add-t11 c = let all = add-t12 c in omega arith
 
-enum-told : tie.Need-enum-told
-enum-told c = search needs
-
 returns : tie.Need-returns
 returns c =
     let a = c .before .before .before .before .before .before .args in
@@ -60,13 +48,13 @@ pub in-place-spec : {M : Type 1} → statement M
 in-place-spec =
     tie.close
     (tie.spec
-    key-of-requires
-    place-of-requires
-    enum-known-found
+    (λ c κs. search needs)
+    (λ c κs. search needs)
+    (λ c. search needs)
     mul-t9
     add-t10
     add-t11
     add-t12
-    enum-told
+    (λ c. search needs)
     returns
     returns-2)

@@ -10,12 +10,6 @@ use Rattle.table.proofs.instances.in_slot.Reads as reads
 use Rattle.table.proofs.instances.in_slot.Lts as lts
 use Rattle.class_tables.proofs.slots.slot_of.Reads as slot-of-reads
 
-slot-of-requires : tie.Need-slot-of-requires
-slot-of-requires c κs = search needs
-
-enum-known-slot : tie.Need-enum-known-slot
-enum-known-slot c = search needs
-
 add-t8 : tie.Need-add-t8
 add-t8 c =
     let a = c .before .before .before .before .args in
@@ -25,9 +19,6 @@ add-t8 c =
 mul-t7 : tie.Need-mul-t7
 mul-t7 c = let all = add-t8 c in omega arith
 
-enum-told : tie.Need-enum-told
-enum-told c = search needs
-
 returns : tie.Need-returns
 returns c = there slot-at (ap found-of (c .before .slot .given .1)) (c .before .before .before .slot-of .ensures)
 
@@ -36,4 +27,4 @@ returns-2 c = nowhere slot-at (ap found-of (c .enum-told .given .1)) (c .before 
 
 pub in-slot-spec : {M : Type 1} → statement M
 in-slot-spec =
-    tie.close (tie.spec slot-of-requires enum-known-slot mul-t7 add-t8 enum-told returns returns-2)
+    tie.close (tie.spec (λ c κs. search needs) (λ c. search needs) mul-t7 add-t8 (λ c. search needs) returns returns-2)

@@ -8,15 +8,6 @@ use Rattle.table.proofs.instances.is_there.Reads as reads
 use Rattle.table.proofs.instances.is_there.Lts as lts
 use Rattle.table.proofs.instances.locate.Reads as locate-reads
 
-locate-requires : tie.Need-locate-requires
-locate-requires c κs = search needs
-
-enum-told : tie.Need-enum-told
-enum-told c = search needs
-
-enum-told-2 : tie.Need-enum-told-2
-enum-told-2 c = search needs
-
 returns : tie.Need-returns
 returns c = sym (ap (λ f. is-some (found-of f)) (c .enum-told .given .1)) ∙ ap is-some (c .before .before .locate .ensures)
 
@@ -24,4 +15,4 @@ returns-2 : tie.Need-returns-2
 returns-2 c = sym (ap (λ f. is-some (found-of f)) (c .enum-told2 .given .1)) ∙ ap is-some (c .before .before .locate .ensures)
 
 pub is-there-spec : {M : Type 1} → statement M
-is-there-spec = tie.close (tie.spec locate-requires enum-told enum-told-2 returns returns-2)
+is-there-spec = tie.close (tie.spec (λ c κs. search needs) (λ c. search needs) (λ c. search needs) returns returns-2)

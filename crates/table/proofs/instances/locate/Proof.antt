@@ -13,15 +13,6 @@ use Rattle.class_tables.proofs.classes.leader_of.Reads as leader-of-reads
 use Rattle.table.proofs.instances.in_place.Reads as in-place-reads
 use Rattle.table.proofs.instances.in_slot.Reads as in-slot-reads
 
-leader-of-requires : tie.Need-leader-of-requires
-leader-of-requires c κs = search needs
-
-is-created-requires : tie.Need-is-created-requires
-is-created-requires c κs = search needs
-
-inside-requires : tie.Need-inside-requires
-inside-requires c κs = search needs
-
 in-place-requires : tie.Need-in-place-requires
 in-place-requires c κs =
     let f = c .before .before .before .before .before in
@@ -36,18 +27,12 @@ returns c =
     let at-leader-of = at-is-created .before in
     with-its-leader _ _ _ _ (at-leader-of .leader-of .ensures) (at-is-created .is-created .ensures) (at-if1 .if1 .taken) (c .before .inside .ensures) (c .in-place .ensures)
 
-is-ont-data-requires : tie.Need-is-ont-data-requires
-is-ont-data-requires c κs = search needs
-
 returns-2 : tie.Need-returns-2
 returns-2 c =
     let at-if1 = c .before .before in
     let at-is-created = at-if1 .before in
     let at-leader-of = at-is-created .before in
     in-front _ _ _ _ (at-leader-of .leader-of .ensures) (at-is-created .is-created .ensures) (at-if1 .if1 .left) (c .before .is-ont-data .ensures) (c .if2 .taken)
-
-in-slot-requires : tie.Need-in-slot-requires
-in-slot-requires c κs = search needs
 
 returns-3 : tie.Need-returns-3
 returns-3 c =
@@ -59,12 +44,12 @@ pub locate-spec : {M : Type 1} → statement M
 locate-spec =
     tie.close
     (tie.spec
-    leader-of-requires
-    is-created-requires
-    inside-requires
+    (λ c κs. search needs)
+    (λ c κs. search needs)
+    (λ c κs. search needs)
     in-place-requires
     returns
-    is-ont-data-requires
+    (λ c κs. search needs)
     returns-2
-    in-slot-requires
+    (λ c κs. search needs)
     returns-3)

@@ -15,17 +15,8 @@ Inv-loop out₀ at table n to₀ i₀ out to i = (length out ≡ length out₀) 
 abbrev μ-loop : tie.MeasureT-loop
 μ-loop out₀ at table n to₀ i₀ out to i = length table - i
 
-start-of-requires : tie.Need-start-of-requires Inv-loop μ-loop
-start-of-requires c κs = search needs
-
 loop-holds : tie.Need-loop-holds Inv-loop μ-loop
 loop-holds c = (search needs, record { told = []; whole = ap first-name (c .start-of .ensures .1); says = says-nothing _ _ })
-
-shared-slice-read-if1 : tie.Need-shared-slice-read-if1 Inv-loop μ-loop
-shared-slice-read-if1 c = search needs
-
-same-length : tie.Need-same-length Inv-loop μ-loop
-same-length c = search needs
 
 returns : tie.Need-returns Inv-loop μ-loop
 returns c =
@@ -33,26 +24,11 @@ returns c =
     let t = l .before .before .before .before .args .table .now in
     ended t (l .loop .inv .1) (at-semicolon t (l .loop .i) (search needs) (c .if1 .taken))
 
-shared-slice-read-put-byte : tie.Need-shared-slice-read-put-byte Inv-loop μ-loop
-shared-slice-read-put-byte c = search needs
-
-put-byte-requires : tie.Need-put-byte-requires Inv-loop μ-loop
-put-byte-requires c κs = search needs
-
-add-i : tie.Need-add-i Inv-loop μ-loop
-add-i c = search needs
-
-loop-less : tie.Need-loop-less Inv-loop μ-loop
-loop-less c = search needs
-
 loop-again : tie.Need-loop-again Inv-loop μ-loop
 loop-again c =
     let l = c .before .before .before .before .before .before .before .before in
     let t = l .before .before .before .before .args .table .now in
     (search needs, told-more t (l .loop .i) (l .loop .inv .1) (search needs) (c .before .before .before .before .before .if1 .left) (c .before .before .put-byte .ensures))
-
-same-length-2 : tie.Need-same-length-2 Inv-loop μ-loop
-same-length-2 c = search needs
 
 returns-2 : tie.Need-returns-2 Inv-loop μ-loop
 returns-2 c =
@@ -66,15 +42,15 @@ put-nth-spec =
     (tie.spec
     Inv-loop
     μ-loop
-    start-of-requires
+    (λ c κs. search needs)
     loop-holds
-    shared-slice-read-if1
-    same-length
+    (λ c. search needs)
+    (λ c. search needs)
     returns
-    shared-slice-read-put-byte
-    put-byte-requires
-    add-i
-    loop-less
+    (λ c. search needs)
+    (λ c κs. search needs)
+    (λ c. search needs)
+    (λ c. search needs)
     loop-again
-    same-length-2
+    (λ c. search needs)
     returns-2)

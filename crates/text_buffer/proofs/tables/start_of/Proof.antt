@@ -24,18 +24,6 @@ returns c =
     let l = c .before .before .loop in
     (search needs, sym (ap (λ (m : ℕ). behind m (drop (l .i) (c .before .before .before .args .table .now))) (c .if1 .taken)) ∙ l .inv .1)
 
-shared-slice-read-if2 : tie.Need-shared-slice-read-if2 Inv-loop μ-loop
-shared-slice-read-if2 c = search needs
-
-sub-left : tie.Need-sub-left Inv-loop μ-loop
-sub-left c = search needs
-
-add-i : tie.Need-add-i Inv-loop μ-loop
-add-i c = search needs
-
-loop-less : tie.Need-loop-less Inv-loop μ-loop
-loop-less c = search needs
-
 loop-again : tie.Need-loop-again Inv-loop μ-loop
 loop-again c =
     let l = c .before .before .before .before .loop in
@@ -59,9 +47,9 @@ start-of-spec =
     μ-loop
     loop-holds
     returns
-    shared-slice-read-if2
-    sub-left
-    add-i
-    loop-less
+    (λ c. search needs)
+    (λ c. search needs)
+    (λ c. search needs)
+    (λ c. search needs)
     loop-again
     returns-2)

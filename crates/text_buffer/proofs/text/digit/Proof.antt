@@ -4,12 +4,9 @@ use borrow.Author.Needs.{needs}
 use Rattle.text_buffer.proofs.text.digit.Statement.{statement}
 use Rattle.text_buffer.proofs.text.digit.Tie as tie
 
-element-copy-out-result : tie.Need-element-copy-out-result
-element-copy-out-result c = search needs
-
 returns : tie.Need-returns
 unfolding hex-digits
 returns c = refl
 
 pub digit-spec : {M : Type 1} → statement M
-digit-spec = tie.close (tie.spec element-copy-out-result returns)
+digit-spec = tie.close (tie.spec (λ c. search needs) returns)

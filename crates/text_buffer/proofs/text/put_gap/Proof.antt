@@ -5,15 +5,6 @@ use borrow.Author.Needs.{needs}
 use Rattle.text_buffer.proofs.text.put_gap.Statement.{statement}
 use Rattle.text_buffer.proofs.text.put_gap.Tie as tie
 
-begins-group-requires : tie.Need-begins-group-requires
-begins-group-requires c κs = search needs
-
-put-byte-requires : tie.Need-put-byte-requires
-put-byte-requires c κs = search needs
-
-same-length : tie.Need-same-length
-same-length c = search needs
-
 returns : tie.Need-returns
 returns c =
     let b = c .before .before .before .before .before in
@@ -26,4 +17,4 @@ returns-2 c =
 
 pub put-gap-spec : {M : Type 1} → statement M
 put-gap-spec =
-    tie.close (tie.spec begins-group-requires put-byte-requires same-length returns returns-2)
+    tie.close (tie.spec (λ c κs. search needs) (λ c κs. search needs) (λ c. search needs) returns returns-2)

@@ -20,30 +20,12 @@ loop-holds : tie.Need-loop-holds Inv-loop μ-loop
 unfolding grouped
 loop-holds c = (search needs, search needs, says-nothing _ _)
 
-put-gap-requires : tie.Need-put-gap-requires Inv-loop μ-loop
-put-gap-requires c κs = search needs
-
-shared-slice-read-put-hex : tie.Need-shared-slice-read-put-hex Inv-loop μ-loop
-shared-slice-read-put-hex c = search needs
-
-put-hex-requires : tie.Need-put-hex-requires Inv-loop μ-loop
-put-hex-requires c κs = search needs
-
-add-i : tie.Need-add-i Inv-loop μ-loop
-add-i c = search needs
-
-loop-less : tie.Need-loop-less Inv-loop μ-loop
-loop-less c = search needs
-
 loop-again : tie.Need-loop-again Inv-loop μ-loop
 loop-again c =
     let g = c .before .before .before .before .before .before .before in
     let l = g .before .before .before in
     let more = grouped-more (l .before .before .before .args .m .now) (l .loop .i) (search needs) in
     (search needs, search needs, and-then (l .loop .inv .2) (and-then (g .put-gap .ensures) (c .before .before .put-hex .ensures) refl) more)
-
-same-length : tie.Need-same-length Inv-loop μ-loop
-same-length c = search needs
 
 returns : tie.Need-returns Inv-loop μ-loop
 returns c =
@@ -56,11 +38,11 @@ put-message-spec =
     Inv-loop
     μ-loop
     loop-holds
-    put-gap-requires
-    shared-slice-read-put-hex
-    put-hex-requires
-    add-i
-    loop-less
+    (λ c κs. search needs)
+    (λ c. search needs)
+    (λ c κs. search needs)
+    (λ c. search needs)
+    (λ c. search needs)
     loop-again
-    same-length
+    (λ c. search needs)
     returns)

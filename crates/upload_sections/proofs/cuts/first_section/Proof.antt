@@ -20,14 +20,8 @@ abbrev μ-loop : tie.MeasureT-loop
 loop-holds : tie.Need-loop-holds Inv-loop μ-loop
 loop-holds c = nothing-cut _ _
 
-how-many-requires : tie.Need-how-many-requires Inv-loop μ-loop
-how-many-requires c κs = search needs
-
 first-named-requires : tie.Need-first-named-requires Inv-loop μ-loop
 first-named-requires c κs = not-none _ (c .before .how-many .ensures) (c .if1 .taken)
-
-attribute-of-requires : tie.Need-attribute-of-requires Inv-loop μ-loop
-attribute-of-requires c κs = search needs
 
 add-used : tie.Need-add-used Inv-loop μ-loop
 add-used c =
@@ -43,9 +37,6 @@ returns c =
     let l = c .before .before .before .before .before .before .loop in
     let a = described (c .before .before .attribute-of .ensures) in
     full _ (l .inv) (c .before .before .before .first-named .ensures) (size-is (a)) (c .if2 .taken) refl
-
-bit-of-requires : tie.Need-bit-of-requires Inv-loop μ-loop
-bit-of-requires c κs = search needs
 
 sub-left : tie.Need-sub-left Inv-loop μ-loop
 sub-left c =
@@ -79,13 +70,13 @@ first-section-spec =
     Inv-loop
     μ-loop
     loop-holds
-    how-many-requires
+    (λ c κs. search needs)
     first-named-requires
-    attribute-of-requires
+    (λ c κs. search needs)
     add-used
     sub-result
     returns
-    bit-of-requires
+    (λ c κs. search needs)
     sub-left
     loop-less
     loop-again

@@ -17,17 +17,8 @@ Inv-loop pr class left₀ count₀ left count = (left < 65536) × (count + lengt
 abbrev μ-loop : tie.MeasureT-loop
 μ-loop pr class left₀ count₀ left count = length (left-sections pr class left)
 
-supported-mask-requires : tie.Need-supported-mask-requires Inv-loop μ-loop
-supported-mask-requires c κs = search needs
-
 loop-holds : tie.Need-loop-holds Inv-loop μ-loop
 loop-holds c = (search needs, let e = ap length (all-left _ _ (c .supported-mask .ensures)) in omega arith)
-
-how-many-requires : tie.Need-how-many-requires Inv-loop μ-loop
-how-many-requires c κs = search needs
-
-first-section-requires : tie.Need-first-section-requires Inv-loop μ-loop
-first-section-requires c κs = search needs
 
 sub-left : tie.Need-sub-left Inv-loop μ-loop
 sub-left c = let l = c .before .before .before .loop in within _ _ (l .left) (l .inv .0) (c .first-section .ensures)
@@ -67,10 +58,10 @@ section-count-spec =
     (tie.spec
     Inv-loop
     μ-loop
-    supported-mask-requires
+    (λ c κs. search needs)
     loop-holds
-    how-many-requires
-    first-section-requires
+    (λ c κs. search needs)
+    (λ c κs. search needs)
     sub-left
     add-count
     loop-less

@@ -18,20 +18,11 @@ Inv-loop pr class n left₀ i₀ left i =
 abbrev μ-loop : tie.MeasureT-loop
 μ-loop pr class n left₀ i₀ left i = n - i
 
-supported-mask-requires : tie.Need-supported-mask-requires Inv-loop μ-loop
-supported-mask-requires c κs = search needs
-
 loop-holds : tie.Need-loop-holds Inv-loop μ-loop
 loop-holds c = (omega arith, search needs, first-mask _ _ _ (c .supported-mask .ensures))
 
-first-section-requires : tie.Need-first-section-requires Inv-loop μ-loop
-first-section-requires c κs = search needs
-
 sub-left : tie.Need-sub-left Inv-loop μ-loop
 sub-left c = let l = c .before .before .loop in within _ _ (l .left) (l .inv .1) (c .first-section .ensures)
-
-add-i : tie.Need-add-i Inv-loop μ-loop
-add-i c = search needs
 
 loop-less : tie.Need-loop-less Inv-loop μ-loop
 loop-less c = omega arith
@@ -40,9 +31,6 @@ loop-again : tie.Need-loop-again Inv-loop μ-loop
 loop-again c =
     let l = c .before .before .loop in
     (omega arith, omega arith, next-mask _ _ (l .left) (l .inv .1) (c .first-section .ensures) _ _ (c .before .loop-test .taken) (l .inv .2))
-
-first-section-requires-2 : tie.Need-first-section-requires-2 Inv-loop μ-loop
-first-section-requires-2 c κs = search needs
 
 returns : tie.Need-returns Inv-loop μ-loop
 returns c =
@@ -55,12 +43,12 @@ section-mask-spec =
     (tie.spec
     Inv-loop
     μ-loop
-    supported-mask-requires
+    (λ c κs. search needs)
     loop-holds
-    first-section-requires
+    (λ c κs. search needs)
     sub-left
-    add-i
+    (λ c. search needs)
     loop-less
     loop-again
-    first-section-requires-2
+    (λ c κs. search needs)
     returns)

@@ -6,12 +6,6 @@ use Rattle.upload_sections.proofs.EntryLaws.{entries-length, slot-entry
 use Rattle.upload_sections.proofs.entries.entry_at.Statement.{statement}
 use Rattle.upload_sections.proofs.entries.entry_at.Tie as tie
 
-slots-requires : tie.Need-slots-requires
-slots-requires c κs = search needs
-
-slot-instance-requires : tie.Need-slot-instance-requires
-slot-instance-requires c κs = search needs
-
 returns : tie.Need-returns
 returns c =
     let a = c .before .before .before .before .args in
@@ -58,8 +52,8 @@ pub entry-at-spec : {M : Type 1} → statement M
 entry-at-spec =
     tie.close
     (tie.spec
-    slots-requires
-    slot-instance-requires
+    (λ c κs. search needs)
+    (λ c κs. search needs)
     returns
     mul-p
     add-p

@@ -5,12 +5,6 @@ use Rattle.upload_sections.proofs.EntryLaws.{entries-length}
 use Rattle.upload_sections.proofs.entries.entry_count.Statement.{statement}
 use Rattle.upload_sections.proofs.entries.entry_count.Tie as tie
 
-slots-requires : tie.Need-slots-requires
-slots-requires c κs = search needs
-
-in-use-requires : tie.Need-in-use-requires
-in-use-requires c κs = search needs
-
 add-result : tie.Need-add-result
 add-result c =
     let f = few-slots (c .before .before .before .args .product) in
@@ -24,4 +18,4 @@ returns c =
     omega arith
 
 pub entry-count-spec : {M : Type 1} → statement M
-entry-count-spec = tie.close (tie.spec slots-requires in-use-requires add-result returns)
+entry-count-spec = tie.close (tie.spec (λ c κs. search needs) (λ c κs. search needs) add-result returns)

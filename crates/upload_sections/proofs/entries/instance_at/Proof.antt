@@ -23,12 +23,6 @@ Inv-loop b pr class j leader n left₀ i₀ left i =
 abbrev μ-loop : tie.MeasureT-loop
 μ-loop b pr class j leader n left₀ i₀ left i = n - i
 
-leader-of-requires : tie.Need-leader-of-requires Inv-loop μ-loop
-leader-of-requires c κs = search needs
-
-entry-count-requires : tie.Need-entry-count-requires Inv-loop μ-loop
-entry-count-requires c κs = search needs
-
 loop-holds : tie.Need-loop-holds Inv-loop μ-loop
 loop-holds c =
     let a = c .before .before .before .args in
@@ -37,9 +31,6 @@ loop-holds c =
       ap (λ (l : List ℕ). nth l (a .j)) (numbers-are (a .product) (a .b .now) (a .class) (c .before .leader-of .ensures))
           ∙ nth-there 0 numbers (a .j) (c .before .before .before .pre .1),
     )
-
-entry-at-requires : tie.Need-entry-at-requires Inv-loop μ-loop
-entry-at-requires c κs = search needs
 
 begin-in-requires : tie.Need-begin-in-requires Inv-loop μ-loop
 begin-in-requires c κs =
@@ -105,10 +96,10 @@ instance-at-spec =
     (tie.spec
     Inv-loop
     μ-loop
-    leader-of-requires
-    entry-count-requires
+    (λ c κs. search needs)
+    (λ c κs. search needs)
     loop-holds
-    entry-at-requires
+    (λ c κs. search needs)
     begin-in-requires
     returns
     sub-left

@@ -16,17 +16,8 @@ Inv-loop b pr class leader n count₀ i₀ count i =
 abbrev μ-loop : tie.MeasureT-loop
 μ-loop b pr class leader n count₀ i₀ count i = n - i
 
-leader-of-requires : tie.Need-leader-of-requires Inv-loop μ-loop
-leader-of-requires c κs = search needs
-
-entry-count-requires : tie.Need-entry-count-requires Inv-loop μ-loop
-entry-count-requires c κs = search needs
-
 loop-holds : tie.Need-loop-holds Inv-loop μ-loop
 loop-holds c = (omega arith, omega arith, omega arith)
-
-entry-at-requires : tie.Need-entry-at-requires Inv-loop μ-loop
-entry-at-requires c κs = search needs
 
 add-count : tie.Need-add-count Inv-loop μ-loop
 add-count c =
@@ -70,10 +61,10 @@ instance-count-spec =
     (tie.spec
     Inv-loop
     μ-loop
-    leader-of-requires
-    entry-count-requires
+    (λ c κs. search needs)
+    (λ c κs. search needs)
     loop-holds
-    entry-at-requires
+    (λ c κs. search needs)
     add-count
     add-i
     loop-less
