@@ -1,9 +1,9 @@
 // The run that is played where no input came: a bridge is built, the link drops during an upload, and the upload stays whole.
+use bench_names::reads::part;
+use bench_run::printing::say_text;
+use bench_run::run;
+use bench_run::run::Run;
 use bench_terminal::lines::take_chunk;
-use bench_terminal::printing::say_text;
-use bench_terminal::run;
-use bench_terminal::run::Run;
-use bench_words::reads::part;
 use store::layout::STORE;
 
 // The script in its parts: before the link drops, the drop, the rest of the upload, and a Get behind it.

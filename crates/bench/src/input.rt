@@ -1,6 +1,6 @@
 // Standard input, from its first byte to its last.
+use bench_run::run::Run;
 use bench_terminal::lines::take_chunk;
-use bench_terminal::run::Run;
 use libc::STDIN_FILENO;
 
 // What one read brought.

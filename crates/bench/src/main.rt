@@ -3,10 +3,10 @@
 mod builtin;
 mod input;
 
+use bench_run::printing::end;
+use bench_run::rooms::line_room;
+use bench_run::run::begin;
 use bench_terminal::lines::take_end;
-use bench_terminal::printing::end;
-use bench_terminal::rooms::line_room;
-use bench_terminal::run::begin;
 
 fn main() {
     let mut room = line_room();

@@ -2,9 +2,9 @@
 use mathlib.Core.Path.{_≡_, refl}
 use mathlib.Core.Bool.{true, false}
 use mathlib.Core.List.{[], _∷_}
-use Rattle.bench_script.specs.declared.Why.the-variants as why
+use Rattle.script_values.specs.declared.Why.the-variants as why
+use Rattle.script_values.specs.Texts.{spelt}
 use Rattle.bench_script.specs.declared.Asked.the-variants as asked
-use Rattle.bench_script.specs.Texts.{spelt}
 use Rattle.bench_script.specs.Lines.{computing-lines, read}
 
 -- ---- lines that ask for something

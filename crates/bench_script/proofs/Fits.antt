@@ -7,22 +7,22 @@ use mathlib.Core.List.{List, [], _∷_, _++_}
 use lib.ListN.{length, take, getD, length-append}
 use lib.Dec.{eqb, leb, ltb}
 use Rattle.rules.proofs.Laws.{cases, leb-lt}
-use Rattle.bench_script.specs.declared.Run.the-variants.{Blanks, Word, Code}
-use Rattle.bench_script.specs.declared.Why.the-variants as why
+use Rattle.script_values.specs.declared.Run.the-variants.{Blanks, Word, Code}
+use Rattle.script_values.specs.declared.Why.the-variants as why
+use Rattle.script_values.specs.declared.Three.{Three}
+use Rattle.script_values.specs.declared.Three.the-variants as three
+use Rattle.script_values.specs.declared.Hex.{Hex}
+use Rattle.script_values.specs.declared.Hex.the-variants as hex
+use Rattle.script_values.specs.Texts.{spelt}
+use Rattle.script_values.specs.Runs.{digit-value, run-end, word-at}
+use Rattle.script_values.specs.Numbers.{three-numbers}
+use Rattle.script_values.specs.HexBytes.{pairs, hex-from}
 use Rattle.bench_script.specs.declared.Call.{Call}
 use Rattle.bench_script.specs.declared.Call.the-variants as call
 use Rattle.bench_script.specs.declared.Chosen.{Chosen}
 use Rattle.bench_script.specs.declared.Chosen.the-variants as chosen
-use Rattle.bench_script.specs.declared.Three.{Three}
-use Rattle.bench_script.specs.declared.Three.the-variants as three
-use Rattle.bench_script.specs.declared.Hex.{Hex}
-use Rattle.bench_script.specs.declared.Hex.the-variants as hex
 use Rattle.bench_script.specs.declared.Asked.{Asked}
 use Rattle.bench_script.specs.declared.Asked.the-variants as asked
-use Rattle.bench_script.specs.Texts.{spelt}
-use Rattle.bench_script.specs.Runs.{digit-value, run-end, word-at}
-use Rattle.bench_script.specs.Numbers.{three-numbers}
-use Rattle.bench_script.specs.HexBytes.{pairs, hex-from}
 use Rattle.bench_script.specs.Lines.{call-of, choice, if-last, by-choice, power, on-or-off, alarm-of, alarm, with-bytes, report-of, report, message, read-call, read-from}
 use Rattle.bench_script.specs.Lines.{read, bytes-of}
 

@@ -1,8 +1,4 @@
-pub mod DigitLaws
-pub mod RunLaws
-pub mod NumberLaws
-pub mod WordLaws
-pub mod HexLaws
+pub mod ChoiceLaws
 pub mod LineLaws
 pub mod Fits
 pub mod ReadBack

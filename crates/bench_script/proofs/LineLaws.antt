@@ -7,22 +7,22 @@ use lib.ListN.{length, take, drop, getD}
 use borrow.Author.Tests.{ne-eqb}
 use Rattle.rules.specs.Bytes.{laid}
 use Rattle.rules.proofs.Laws.{eqb-true, lt-ltb, le-ltb}
-use Rattle.bench_script.specs.declared.Run.the-variants.{Blanks, Word}
-use Rattle.bench_script.specs.declared.Why.{Why}
-use Rattle.bench_script.specs.declared.Why.the-variants as why
+use Rattle.script_values.specs.declared.Run.the-variants.{Blanks, Word}
+use Rattle.script_values.specs.declared.Why.{Why}
+use Rattle.script_values.specs.declared.Why.the-variants as why
+use Rattle.script_values.specs.declared.Three.{Three}
+use Rattle.script_values.specs.declared.Three.the-variants as three
+use Rattle.script_values.specs.declared.Hex.{Hex}
+use Rattle.script_values.specs.Texts.{spelt}
+use Rattle.script_values.specs.Runs.{digit-value, run-end}
+use Rattle.script_values.specs.Numbers.{three-numbers}
+use Rattle.script_values.specs.HexBytes.{Decoded, Gives, hex-from}
+use Rattle.script_values.proofs.WordLaws.{part-is-word}
 use Rattle.bench_script.specs.declared.Call.{Call}
 use Rattle.bench_script.specs.declared.Chosen.{Chosen}
-use Rattle.bench_script.specs.declared.Three.{Three}
-use Rattle.bench_script.specs.declared.Three.the-variants as three
-use Rattle.bench_script.specs.declared.Hex.{Hex}
 use Rattle.bench_script.specs.declared.Asked.{Asked}
 use Rattle.bench_script.specs.declared.Asked.the-variants as asked
-use Rattle.bench_script.specs.Texts.{spelt}
-use Rattle.bench_script.specs.Runs.{digit-value, run-end}
-use Rattle.bench_script.specs.Numbers.{three-numbers}
-use Rattle.bench_script.specs.HexBytes.{Decoded, Gives, hex-from}
 use Rattle.bench_script.specs.Lines.{call-of, choice, by-choice, power, on-or-off, alarm-of, alarm, with-bytes, holding, report, message, read-call, read-from, read-text}
-use Rattle.bench_script.proofs.WordLaws.{part-is-word}
 
 -- no bytes go with it, and the buffer stays as it is
 pub untouched : (a r : Asked) (b : List ℕ) → r ≡ a → Gives (a, []) r b b

@@ -12,15 +12,15 @@ use borrow.Author.Tests.{lt-leb, ne-eqb}
 use Rattle.rules.specs.Maps.{_and_, all, same}
 use Rattle.rules.specs.Bytes.{are-bytes}
 use Rattle.rules.proofs.Laws.{cases, both, eqb-false, ltb-lt, ltb-le, lt-ltb}
-use Rattle.bench_script.specs.declared.Run.the-variants.{Blanks, Word, Code}
+use Rattle.script_values.specs.declared.Run.the-variants.{Blanks, Word, Code}
+use Rattle.script_values.specs.declared.Hex.the-variants as hex
+use Rattle.script_values.specs.Texts.{spelt}
+use Rattle.script_values.specs.Runs.{is-blank, is-gap, digit-value, goes-on, run-length, run-end, word-at}
+use Rattle.script_values.specs.HexBytes.{marks, pairs}
+use Rattle.script_values.proofs.DigitLaws.{decimal, upper}
 use Rattle.bench_script.specs.declared.Call.the-variants as call
-use Rattle.bench_script.specs.declared.Hex.the-variants as hex
 use Rattle.bench_script.specs.declared.Asked.the-variants as asked
-use Rattle.bench_script.specs.Texts.{spelt}
-use Rattle.bench_script.specs.Runs.{is-blank, is-gap, digit-value, goes-on, run-length, run-end, word-at}
-use Rattle.bench_script.specs.HexBytes.{marks, pairs}
 use Rattle.bench_script.specs.Lines.{call-of, message, read-call, read-from, read}
-use Rattle.bench_script.proofs.DigitLaws.{decimal, upper}
 
 -- ---- digits
 

@@ -5,23 +5,23 @@ use mathlib.Core.List.{List, []}
 use lib.ListN.{length, take, getD}
 use lib.Dec.{eqb, ltb}
 use Rattle.rules.specs.Maps.{computing-maps, same}
-use Rattle.bench_script.specs.declared.Run.the-variants.{Blanks, Word, Code}
-use Rattle.bench_script.specs.declared.Why.{Why}
-use Rattle.bench_script.specs.declared.Why.the-variants as why
+use Rattle.script_values.specs.declared.Run.the-variants.{Blanks, Word, Code}
+use Rattle.script_values.specs.declared.Why.{Why}
+use Rattle.script_values.specs.declared.Why.the-variants as why
+use Rattle.script_values.specs.declared.Three.{Three}
+use Rattle.script_values.specs.declared.Three.the-variants as three
+use Rattle.script_values.specs.declared.Hex.{Hex}
+use Rattle.script_values.specs.declared.Hex.the-variants as hex
+use Rattle.script_values.specs.Texts.{spelt}
+use Rattle.script_values.specs.Runs.{computing-runs, digit-value, run-end, word-at}
+use Rattle.script_values.specs.Numbers.{computing-numbers, three-numbers}
+use Rattle.script_values.specs.HexBytes.{computing-hex, Decoded, hex-from}
 use Rattle.bench_script.specs.declared.Call.{Call}
 use Rattle.bench_script.specs.declared.Call.the-variants as call
 use Rattle.bench_script.specs.declared.Chosen.{Chosen}
 use Rattle.bench_script.specs.declared.Chosen.the-variants as chosen
-use Rattle.bench_script.specs.declared.Three.{Three}
-use Rattle.bench_script.specs.declared.Three.the-variants as three
-use Rattle.bench_script.specs.declared.Hex.{Hex}
-use Rattle.bench_script.specs.declared.Hex.the-variants as hex
 use Rattle.bench_script.specs.declared.Asked.{Asked}
 use Rattle.bench_script.specs.declared.Asked.the-variants as asked
-use Rattle.bench_script.specs.Texts.{spelt}
-use Rattle.bench_script.specs.Runs.{computing-runs, digit-value, run-end, word-at}
-use Rattle.bench_script.specs.Numbers.{computing-numbers, three-numbers}
-use Rattle.bench_script.specs.HexBytes.{computing-hex, Decoded, hex-from}
 
 -- what is asked for, and the bytes that go with it
 abbrev pub Read : Type 0

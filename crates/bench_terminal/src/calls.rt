@@ -1,10 +1,10 @@
 // The calls of a script: each is handed to the engine, and its outcome told.
-use super::printing::put_head;
-use super::printing::say;
-use super::run::Run;
-use bench_words::names::put_drop;
-use bench_words::reads::byte_at;
-use bench_words::reads::number_at;
+use bench_names::names::put_drop;
+use bench_names::reads::byte_at;
+use bench_names::reads::number_at;
+use bench_run::printing::put_head;
+use bench_run::printing::say;
+use bench_run::run::Run;
 use bench_words::replies::put_told;
 use bench_words::requests::put_asked;
 use bench_words::requests::put_raised;

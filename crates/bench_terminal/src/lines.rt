@@ -1,13 +1,13 @@
 // The input, line by line: a line ends with a line feed, the last one perhaps with the input.
 use super::calls;
-use super::complaints::long_line;
-use super::complaints::wrong_line;
-use super::rooms::bytes_room;
-use super::run::Run;
-use super::run::next_line;
 use super::walks;
+use bench_names::reads::part;
+use bench_run::complaints::long_line;
+use bench_run::complaints::wrong_line;
+use bench_run::rooms::bytes_room;
+use bench_run::run::Run;
+use bench_run::run::next_line;
 use bench_script::Asked;
-use bench_words::reads::part;
 use text_buffer::text::put;
 ghost use Prim.Native.Nat.{_≤_, _<_};
 ghost use lib.ListN.{length};

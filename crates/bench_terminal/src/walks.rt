@@ -1,8 +1,8 @@
 // `upload` and `alarms`: the walk is asked for, and every section fetched.
 use super::calls::exchange;
-use super::run::Run;
-use super::run::next_id;
-use super::run::with_id;
+use bench_run::run::Run;
+use bench_run::run::next_id;
+use bench_run::run::with_id;
 use message_frame::numbers::ALARMS_NEXT;
 use message_frame::numbers::ALL_ALARMS;
 use message_frame::numbers::UPLOAD;

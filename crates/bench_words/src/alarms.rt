@@ -1,6 +1,6 @@
 // Which alarms of a bitmap are on.
-use super::names::put_alarm;
-use super::reads::byte_at;
+use bench_names::names::put_alarm;
+use bench_names::reads::byte_at;
 use text_buffer::text::put;
 
 // Is an alarm of a bitmap on?

@@ -1,8 +1,6 @@
-// The words of the bench terminal: messages, replies, notifications and drops as texts, laid into a buffer that the caller lends.
+// The sentences of the bench terminal: messages, replies, notifications and reports as texts, laid into a buffer that the caller lends.
 // Each writer takes the place where its text begins and answers the place behind it; a full buffer takes no more.
 pub mod alarms;
 pub mod masks;
-pub mod names;
-pub mod reads;
 pub mod replies;
 pub mod requests;

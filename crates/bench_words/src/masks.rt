@@ -1,7 +1,7 @@
 // Attributes that a mask names: their names, or a line for each with its content.
-use super::names::put_attribute;
-use super::reads::behind;
-use super::reads::part;
+use bench_names::names::put_attribute;
+use bench_names::reads::behind;
+use bench_names::reads::part;
 use class_tables::Product;
 use text_buffer::text::put;
 use text_buffer::text::put_bytes;

@@ -1,13 +1,13 @@
 // What is asked for, in words: a command, or a message that is none; a report; an alarm.
 use super::masks::put_contents;
 use super::masks::put_names;
-use super::names::put_alarm;
-use super::names::put_attribute;
-use super::names::put_instance;
-use super::names::put_message_name;
-use super::reads::byte_at;
-use super::reads::number_at;
-use super::reads::part;
+use bench_names::names::put_alarm;
+use bench_names::names::put_attribute;
+use bench_names::names::put_instance;
+use bench_names::names::put_message_name;
+use bench_names::reads::byte_at;
+use bench_names::reads::number_at;
+use bench_names::reads::part;
 use message_frame::numbers::ALARMS_NEXT;
 use message_frame::numbers::CREATE;
 use message_frame::numbers::GET;

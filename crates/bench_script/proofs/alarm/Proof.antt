@@ -1,21 +1,9 @@
-use Rattle.bench_script.specs.declared.Three.the-variants as three
+use Rattle.script_values.specs.declared.Three.the-variants as three
 use mathlib.Core.Path.{refl}
 use Rattle.bench_script.proofs.LineLaws.{alarm-asks}
 use borrow.Author.Needs.{needs}
 use Rattle.bench_script.proofs.alarm.Statement.{statement}
 use Rattle.bench_script.proofs.alarm.Tie as tie
-
-three-numbers-requires : tie.Need-three-numbers-requires
-three-numbers-requires c κs = search needs
-
-enum-known-place : tie.Need-enum-known-place
-enum-known-place c = search needs
-
-enum-known-class : tie.Need-enum-known-class
-enum-known-class c = search needs
-
-on-or-off-requires : tie.Need-on-or-off-requires
-on-or-off-requires c κs = search needs
 
 returns : tie.Need-returns
 returns c =
@@ -36,9 +24,9 @@ pub alarm-spec : {M : Type 1} → statement M
 alarm-spec =
     tie.close
     (tie.spec
-    three-numbers-requires
-    enum-known-place
-    enum-known-class
-    on-or-off-requires
+    (λ c κs. search needs)
+    (λ c. search needs)
+    (λ c. search needs)
+    (λ c κs. search needs)
     returns
     returns-2)

@@ -7,28 +7,10 @@ use borrow.Author.Needs.{needs}
 use Rattle.bench_script.proofs.message.Statement.{statement}
 use Rattle.bench_script.proofs.message.Tie as tie
 
-shared-slice-read-digit : tie.Need-shared-slice-read-digit
-shared-slice-read-digit c = search needs
-
-digit-requires : tie.Need-digit-requires
-digit-requires c κs = search needs
-
 returns : tie.Need-returns
 returns c =
     let a = c .before .before .before .before .before .args in
     message-unknown (length (a .bytes .now)) (a .text .now) (a .bytes .now) (a .from) (sym (c .before .digit .ensures .0) ∙ c .if1 .taken)
-
-hex-bytes-requires : tie.Need-hex-bytes-requires
-hex-bytes-requires c κs = search needs
-
-enum-known-place : tie.Need-enum-known-place
-enum-known-place c = search needs
-
-enum-known-n : tie.Need-enum-known-n
-enum-known-n c = search needs
-
-same-length : tie.Need-same-length
-same-length c = search needs
 
 returns-2 : tie.Need-returns-2
 returns-2 c =
@@ -37,9 +19,6 @@ returns-2 c =
     let a = d .before .before .before .before .args in
     message-known (length (a .bytes .now)) (a .text .now) (a .bytes .now) (a .from) (λ q. o .before .before .if1 .left (d .digit .ensures .0 ∙ q))
     (o .hex-bytes .result) _ _ (o .hex-bytes .ensures) (ap (with-bytes asked.Message) (sym (c .before .place .given .1)))
-
-same-length-2 : tie.Need-same-length-2
-same-length-2 c = search needs
 
 returns-3 : tie.Need-returns-3
 returns-3 c =
@@ -53,13 +32,13 @@ pub message-spec : {M : Type 1} → statement M
 message-spec =
     tie.close
     (tie.spec
-    shared-slice-read-digit
-    digit-requires
+    (λ c. search needs)
+    (λ c κs. search needs)
     returns
-    hex-bytes-requires
-    enum-known-place
-    enum-known-n
-    same-length
+    (λ c κs. search needs)
+    (λ c. search needs)
+    (λ c. search needs)
+    (λ c. search needs)
     returns-2
-    same-length-2
+    (λ c. search needs)
     returns-3)

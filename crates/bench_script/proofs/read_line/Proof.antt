@@ -1,6 +1,6 @@
 use Rattle.bench_script.proofs.Fits.{line-fits}
 use Rattle.bench_script.specs.Lines.{read}
-use Rattle.bench_script.specs.HexBytes.{Gives}
+use Rattle.script_values.specs.HexBytes.{Gives}
 use lib.Seq.{length-take-le}
 use lib.ListN.{length}
 use mathlib.Core.Path.{sym}
@@ -9,17 +9,8 @@ use borrow.Author.Needs.{needs}
 use Rattle.bench_script.proofs.read_line.Statement.{statement}
 use Rattle.bench_script.proofs.read_line.Tie as tie
 
-run-end-requires : tie.Need-run-end-requires
-run-end-requires c κs = search needs
-
 slice-aggregate-read-text : tie.Need-slice-aggregate-read-text
 slice-aggregate-read-text c = sym (length-take-le (c .before .run-end .result) (c .before .before .before .before .args .line .now) (omega arith))
-
-read-text-requires : tie.Need-read-text-requires
-read-text-requires c κs = search needs
-
-same-length : tie.Need-same-length
-same-length c = search needs
 
 returns : tie.Need-returns
 returns c =
@@ -33,4 +24,4 @@ returns c =
 pub read-line-spec : {M : Type 1} → statement M
 read-line-spec =
     tie.close
-    (tie.spec run-end-requires slice-aggregate-read-text read-text-requires same-length returns)
+    (tie.spec (λ c κs. search needs) slice-aggregate-read-text (λ c κs. search needs) (λ c. search needs) returns)

@@ -7,33 +7,12 @@ use borrow.Author.Needs.{needs}
 use Rattle.bench_script.proofs.report.Statement.{statement}
 use Rattle.bench_script.proofs.report.Tie as tie
 
-three-numbers-requires : tie.Need-three-numbers-requires
-three-numbers-requires c κs = search needs
-
-enum-known-place : tie.Need-enum-known-place
-enum-known-place c = search needs
-
-enum-known-class : tie.Need-enum-known-class
-enum-known-class c = search needs
-
-hex-bytes-requires : tie.Need-hex-bytes-requires
-hex-bytes-requires c κs = search needs
-
-enum-known-place-2 : tie.Need-enum-known-place-2
-enum-known-place-2 c = search needs
-
-enum-known-length : tie.Need-enum-known-length
-enum-known-length c = search needs
-
 returns : tie.Need-returns
 returns c =
     let o = c .before .before .before in
     let a = o .before .before .before .args in
     report-wrong (length (a .bytes .now)) (a .text .now) (a .bytes .now) (a .at) (c .before .place .given .0 .0) (c .before .place .given .0 .1 .0)
     (sym (o .three-numbers .ensures) ∙ c .before .place .given .1)
-
-same-length : tie.Need-same-length
-same-length c = search needs
 
 returns-2 : tie.Need-returns-2
 returns-2 c =
@@ -44,9 +23,6 @@ returns-2 c =
     report-right (length (a .bytes .now)) (a .text .now) (a .bytes .now) (a .at) (t .0) (t .1 .0) (t .1 .1 .0) (t .1 .1 .1 .0)
     (sym (k .before .before .three-numbers .ensures) ∙ k .class .given .1) (o .hex-bytes .result) _ _ (o .hex-bytes .ensures)
     (ap (with-bytes (asked.Report (t .0) (t .1 .0) (t .1 .1 .0))) (sym (c .before .place2 .given .1)))
-
-same-length-2 : tie.Need-same-length-2
-same-length-2 c = search needs
 
 returns-3 : tie.Need-returns-3
 returns-3 c =
@@ -62,14 +38,14 @@ pub report-spec : {M : Type 1} → statement M
 report-spec =
     tie.close
     (tie.spec
-    three-numbers-requires
-    enum-known-place
-    enum-known-class
-    hex-bytes-requires
-    enum-known-place-2
-    enum-known-length
+    (λ c κs. search needs)
+    (λ c. search needs)
+    (λ c. search needs)
+    (λ c κs. search needs)
+    (λ c. search needs)
+    (λ c. search needs)
     returns
-    same-length
+    (λ c. search needs)
     returns-2
-    same-length-2
+    (λ c. search needs)
     returns-3)

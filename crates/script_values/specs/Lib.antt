@@ -1,0 +1,4 @@
+pub mod Texts
+pub mod Runs
+pub mod Numbers
+pub mod HexBytes
