@@ -1,5 +1,5 @@
-// What the engine knows of a class, as tables: the products' catalogues as code. Beside it only `class_tests` has a branch for a class or
-// a product: the straight-line tests of a whole store's contents.
+// What the engine knows of a class, as tables: the products' catalogues as code. Beside it `attribute_tables` has a line for each attribute, and
+// `class_tests`, `slot_tests` and `place_runs` test a whole store's contents; no other crate has a branch for a class or a product.
 pub mod built;
 pub mod classes;
 pub mod masks;

@@ -1,31 +1,30 @@
 -- The slots and places of the products, byte by byte: the contents of the class that leads an entry, then zeros.
-use Prim.Native.Nat.{ℕ, _+_, _≤_}
+use Prim.Native.Nat.{ℕ, _≤_}
 use native.Mathlib.Omega.{arith}
 use mathlib.Core.Path.{_≡_, refl, sym, _∙_, ap}
 use mathlib.Core.Bool.{Bool, true, false}
 use mathlib.Core.List.{List, [], _∷_}
 use lib.ListN.{length, take, drop, length-drop, drop-of-length-le, take-append-drop}
-use lib.Seq.{length-take-le, drop-drop, drop-append-le}
+use lib.Seq.{length-take-le, drop-append-le, take-suc, drop-at}
+use lib.Dec.{eqb, leb}
 use Rattle.rules.specs.Maps.{_and_, Map, keys, all, empty}
-use Rattle.rules.specs.Bytes.{are-bytes, all-zero}
-use Rattle.rules.specs.Catalogue.{Class, is-created, family, key, ont-data}
-use Rattle.rules.specs.Legal.{automatic-keys}
-use Rattle.rules.proofs.Laws.{both, true-and}
+use Rattle.rules.specs.Bytes.{byte, are-bytes, all-zero}
+use Rattle.rules.specs.Catalogue.{Class, Catalogue, class, is-created, family, ont-data}
+use Rattle.rules.proofs.Laws.{never, both, and-true, true-and, bool-eq, eqb-true, eqb-eq, leb-le, le-leb}
 use Rattle.rules.proofs.MapLaws.{Each}
 use Rattle.rules.proofs.Families.{family-classes}
 use Rattle.rules.proofs.Conjunctions.{and-assoc, and-end}
-use Rattle.rules.proofs.ByteLaws.{bytes-take, bytes-drop}
+use Rattle.rules.proofs.ByteLaws.{bytes-drop}
 use Rattle.octets.proofs.Tests.{zeros-append}
-use Rattle.store.specs.Layout.{ont-data-width, slot-width, place-width, slots-length, contents-width, family-width}
+use Rattle.store.specs.Layout.{ont-data-width, place-width, contents-width, family-width}
 use Rattle.class_tables.specs.declared.Product.{Product}
 use Rattle.class_tables.specs.declared.Product.the-variants.{Small, Large}
 use Rattle.class_tables.specs.Built.{cat-of, class-for}
 use Rattle.class_tables.specs.Lines.{lines-of, lines-in}
 use Rattle.class_tables.specs.Computing.{computing-tables}
-use Rattle.class_tables.proofs.EveryProduct.{well-formed-of, same-number, empty-none, otherwise-false}
-use Rattle.class_tables.proofs.Matches.{Avoids}
+use Rattle.class_tables.proofs.EveryProduct.{well-formed-of, in-each, same-number, empty-none}
 use Rattle.class_tests.specs.ContentTests.{judged-lines, all-pass, lines-test, contents-test, computing-tests}
-use Rattle.class_tests.specs.Tests.{family-test, slots-test, entry-test}
+use Rattle.class_tests.specs.Tests.{family-legal, family-test, entry-test, front-test, port-front}
 use Rattle.class_tests.proofs.ContentsTested.{contents-tested}
 
 -- nothing is left of a block that is full
@@ -33,181 +32,113 @@ pub none-left : (n : ℕ) (b : List ℕ) → length b ≡ n → all-zero (drop n
 unfolding all-zero all
 none-left n b h = rw (drop-of-length-le b {i = n} (omega (arith, h)))
 
--- ---- an entry
+-- zeros from m on are zeros up to n and from there on
+pub zeros-behind : (m n : ℕ) (b : List ℕ) → m ≤ n → n ≤ length b → (all-zero (drop m (take n b)) and all-zero (drop n b)) ≡ all-zero (drop m b)
+zeros-behind m n b h k =
+    let l : length (take n b) ≡ n = length-take-le n b k in
+    sym (zeros-append (drop m (take n b)) (drop n b))
+    ∙ ap all-zero (sym (drop-append-le m (take n b) (drop n b) (omega arith)) ∙ ap (λ (x : List ℕ). drop m x) (take-append-drop n b))
+
+-- ---- the classes of a family
 
 -- no content of these classes can fail
 abbrev free : Product → List ℕ → Bool
 free pr l = all (λ c. empty (judged-lines (cat-of pr) (lines-in (lines-of pr) c))) l
+
+-- the class leads the family, and no content of the others can fail
+abbrev led : Product → ℕ → Map Class → Bool
+led pr c [] = false
+led pr c (e ∷ l) = eqb c (e .0) and free pr (keys l)
 
 free-passes : (pr : Product) (c : ℕ) (b : List ℕ) → empty (judged-lines (cat-of pr) (lines-in (lines-of pr) c)) ≡ true → contents-test pr c b ≡ true
 unfolding contents-test lines-test all-pass
 free-passes pr c b h = rw (← empty-none (judged-lines (cat-of pr) (lines-in (lines-of pr) c)) h) refl
 
 module _ (pr : Product) where
-  -- a family of such classes
-  free-tested : (l : Map Class) (b : List ℕ) → Each (λ c k. class-for pr c ≡ k) l → family-width l ≤ length b → are-bytes b ≡ true → free pr (keys l) ≡ true
-      → family-test (cat-of pr) l b ≡ all-zero (drop (family-width l) b)
-  unfolding family-test family-width keys all
-  free-tested [] b cl w bs f = refl
-  free-tested (e ∷ l) b cl w bs f =
+  free-legal : (l : Map Class) (b : List ℕ) → Each (λ c k. class-for pr c ≡ k) l → family-width l ≤ length b → are-bytes b ≡ true → free pr (keys l) ≡ true
+      → family-legal (cat-of pr) l b ≡ true
+  unfolding family-legal family-width keys all
+  free-legal [] b cl w bs f = refl
+  free-legal (e ∷ l) b cl w bs f =
       let room : contents-width (class-for pr (e .0)) ≤ length b = rw (cl .0) (omega arith) in
       let first = contents-tested pr (e .0) b room bs ∙ free-passes pr (e .0) b (both f .0) in
       let n : ℕ = contents-width (e .1) in
       let rest : family-width l ≤ length (drop n b) = simp length-drop (omega arith) in
-      rw (rw (cl .0) at first, true-and, free-tested l (drop n b) (cl .1) rest (bytes-drop n b bs) (both f .1), drop-drop (family-width l) n b) refl
+      and-true (rw (cl .0) at first) (free-legal l (drop n b) (cl .1) rest (bytes-drop n b bs) (both f .1))
 
-  -- one that a class leads, whose contents can fail
-  led-tested : (l : Map Class) (b : List ℕ) (c : ℕ) (k : Class) → Each (λ c k. class-for pr c ≡ k) ((c, k) ∷ l) → family-width ((c, k) ∷ l) ≤ length b → are-bytes b ≡ true
-      → free pr (keys l) ≡ true → family-test (cat-of pr) ((c, k) ∷ l) b ≡ (contents-test pr c b and all-zero (drop (family-width ((c, k) ∷ l)) b))
-  unfolding family-test family-width
-  led-tested l b c k cl w bs f =
-      let room : contents-width (class-for pr c) ≤ length b = rw (cl .0) (omega arith) in
-      let first = contents-tested pr c b room bs in
-      let n : ℕ = contents-width k in
+  led-legal : (c : ℕ) (l : Map Class) (b : List ℕ) → Each (λ c k. class-for pr c ≡ k) l → family-width l ≤ length b → are-bytes b ≡ true → led pr c l ≡ true
+      → family-legal (cat-of pr) l b ≡ contents-test pr c b
+  unfolding family-legal family-width
+  led-legal c [] b cl w bs h = never h
+  led-legal c (e ∷ l) b cl w bs h =
+      let room : contents-width (class-for pr (e .0)) ≤ length b = rw (cl .0) (omega arith) in
+      let n : ℕ = contents-width (e .1) in
       let rest : family-width l ≤ length (drop n b) = simp length-drop (omega arith) in
-      rw (rw (cl .0) at first, free-tested l (drop n b) (cl .1) rest (bytes-drop n b bs) f, drop-drop (family-width l) n b) refl
+      rw (eqb-eq c (e .0) (both h .0), ← contents-tested pr (e .0) b room bs, cl .0, free-legal l (drop n b) (cl .1) rest (bytes-drop n b bs) (both h .1)) (and-end _)
 
-  pub entry-tested : (c : ℕ) (b : List ℕ) (k : Class) (l : Map Class) (width : ℕ) → family (cat-of pr) c ≡ (c, k) ∷ l → family-width ((c, k) ∷ l) ≡ width
-      → free pr (keys l) ≡ true
-      → width ≤ length b → are-bytes b ≡ true → family-test (cat-of pr) (family (cat-of pr) c) b ≡ (contents-test pr c b and all-zero (drop width b))
-  entry-tested c b k l width e w f room bs =
-      let cl : Each (λ c k. class-for pr c ≡ k) ((c, k) ∷ l) = rw e at (family-classes (cat-of pr) (well-formed-of pr) c) in
-      rw (e, ← w) (led-tested l b c k cl (rw w room) bs f)
+-- what computes of a class: it leads its family so, and the family's contents have this width
+abbrev pub wide : Product → ℕ → ℕ → Bool
+wide pr c width = led pr c (family (cat-of pr) c) and eqb (family-width (family (cat-of pr) c)) width
 
--- ---- places
+module _ (pr : Product) (c width : ℕ) (b : List ℕ) (computed : wide pr c width ≡ true) (room : width ≤ length b) (bs : are-bytes b ≡ true) where
+  its-width : family-width (family (cat-of pr) c) ≡ width
+  its-width = eqb-eq (family-width (family (cat-of pr) c)) width (both computed .1)
 
--- no other class can be created
-pub no-entry : (pr : Product) (c : ℕ) (b : List ℕ) → Avoids c (47 ∷ 45 ∷ []) → false ≡ entry-test (cat-of pr) c b
-unfolding _and_
-no-entry pr c b a = rw (← otherwise-false pr c (47 ∷ 45 ∷ []) a (λ k. is-created (k .creation)) (unfold computing-tables in (refl, refl))) refl
+  legal-is : family-legal (cat-of pr) (family (cat-of pr) c) b ≡ contents-test pr c b
+  legal-is = led-legal pr c (family (cat-of pr) c) b (family-classes (cat-of pr) (well-formed-of pr) c) (rw its-width room) bs (both computed .0)
 
--- what computes of a class: the width of its entry, that it leads its family, and that nothing else in it can fail
-pub record Computed (pr : Product) (c width : ℕ) : Type 0 where
-  pub leading : Class
-  pub others : Map Class
-  pub in-order : family (cat-of pr) c ≡ (c, leading) ∷ others
-  pub as-wide : family-width ((c, leading) ∷ others) ≡ width
-  pub others-free : free pr (keys others) ≡ true
+  pub family-is : family-test (cat-of pr) (family (cat-of pr) c) b ≡ (contents-test pr c b and all-zero (drop width b))
+  unfolding family-test
+  family-is = rw (legal-is, its-width) refl
 
-computed-test : (pr : Product) (c width : ℕ) (b : List ℕ) → Computed pr c width → width ≤ length b → are-bytes b ≡ true
-    → family-test (cat-of pr) (family (cat-of pr) c) b ≡ (contents-test pr c b and all-zero (drop width b))
-computed-test pr c width b x room bs = entry-tested pr c b (x .leading) (x .others) width (x .in-order) (x .as-wide) (x .others-free) room bs
+  module _ (made : is-created (class-for pr c .creation) ≡ true) where
+    pub entry-is : entry-test (cat-of pr) c b ≡ (contents-test pr c b and all-zero (drop width b))
+    entry-is = rw (made, true-and) family-is
 
-pub place-tested : (pr : Product) (c width : ℕ) (b : List ℕ) → is-created (class-for pr c .creation) ≡ true → Computed pr c width → width ≤ length b → are-bytes b ≡ true
-    → entry-test (cat-of pr) c b ≡ (contents-test pr c b and all-zero (drop width b))
-place-tested pr c width b cr x room bs = rw (cr, true-and) (computed-test pr c width b x room bs)
+    pub front-is : (w : ℕ) → front-test (cat-of pr) c w b ≡ (contents-test pr c b and all-zero (drop width (take w b)))
+    unfolding front-test
+    front-is w = rw (made, legal-is, its-width, true-and) refl
 
--- a place that is full
-pub full-place : (pr : Product) (c width : ℕ) (b : List ℕ) → is-created (class-for pr c .creation) ≡ true → Computed pr c width → length b ≡ width → are-bytes b ≡ true
-    → entry-test (cat-of pr) c b ≡ contents-test pr c b
-full-place pr c width b cr x len bs = place-tested pr c width b cr x (omega (arith, len)) bs ∙ rw (none-left width b len) (and-end (contents-test pr c b))
+-- nothing but the zeros from byte w on is left of an entry
+fronted : (cat : Catalogue) (c w : ℕ) (b : List ℕ) → family-width (family cat c) ≤ w → w ≤ length b
+    → entry-test cat c b ≡ (front-test cat c w b and all-zero (drop w b))
+unfolding front-test family-test
+fronted cat c w b narrow room =
+    let made : Bool = is-created (class cat c .creation) in
+    let legal : Bool = family-legal cat (family cat c) b in
+    let n : ℕ = family-width (family cat c) in
+    rw (← zeros-behind n w b narrow room, ← and-assoc legal (all-zero (drop n (take w b))) (all-zero (drop w b)))
+    (sym (and-assoc made (legal and all-zero (drop n (take w b))) (all-zero (drop w b))))
 
--- what computes of the classes with places
-small-45 : Computed Small 45 31
-unfolding computing-tables computing-tests
-small-45 = record { leading = _; others = _; in-order = refl; as-wide = refl; others-free = refl }
-
-large-45 : Computed Large 45 place-width
-unfolding computing-tables computing-tests
-large-45 = record { leading = _; others = _; in-order = refl; as-wide = refl; others-free = refl }
-
-small-47 : Computed Small 47 12
-unfolding computing-tables computing-tests
-small-47 = record { leading = _; others = _; in-order = refl; as-wide = refl; others-free = refl }
-
-large-47 : Computed Large 47 13
-unfolding computing-tables computing-tests
-large-47 = record { leading = _; others = _; in-order = refl; as-wide = refl; others-free = refl }
-
+-- the places of the products, each with its own zeros
 module _ (b : List ℕ) (h : length b ≡ place-width) (bs : are-bytes b ≡ true) where
   pub small-profile : entry-test (cat-of Small) 45 b ≡ (contents-test Small 45 b and all-zero (drop 31 b))
-  small-profile = place-tested Small 45 31 b (unfold computing-tables in refl) small-45 (omega arith) bs
+  small-profile = entry-is Small 45 31 b (unfold computing-tables computing-tests in refl) (omega arith) bs (unfold computing-tables in refl)
 
   pub large-profile : entry-test (cat-of Large) 45 b ≡ contents-test Large 45 b
-  large-profile = full-place Large 45 place-width b (unfold computing-tables in refl) large-45 h bs
+  large-profile =
+      entry-is Large 45 place-width b (unfold computing-tables computing-tests in refl) (omega arith) bs (unfold computing-tables in refl)
+      ∙ rw (none-left place-width b h) (and-end (contents-test Large 45 b))
 
-  pub small-port : entry-test (cat-of Small) 47 b ≡ (contents-test Small 47 b and all-zero (drop 12 b))
-  small-port = place-tested Small 47 12 b (unfold computing-tables in refl) small-47 (omega arith) bs
+  pub small-port : front-test (cat-of Small) 47 port-front b ≡ (contents-test Small 47 b and leb (byte b 12) 0)
+  unfolding all-zero all
+  small-port =
+      front-is Small 47 12 b (unfold computing-tables computing-tests in refl) (omega arith) bs (unfold computing-tables in refl) port-front
+      ∙ rw (take-suc b 12 0 (omega arith), drop-at (take 12 b) (byte b 12 ∷ []) 12 (length-take-le 12 b (omega arith)), and-end (eqb (byte b 12) 0), none-or-some (byte b 12)) refl
+    where
+      none-or-some : (x : ℕ) → eqb x 0 ≡ leb x 0
+      none-or-some x = bool-eq (eqb x 0) (leb x 0) (λ e. le-leb x 0 (omega (arith, eqb-eq x 0 e))) (λ e. eqb-true x 0 (omega (arith, leb-le x 0 e)))
 
-  pub large-port : entry-test (cat-of Large) 47 b ≡ (contents-test Large 47 b and all-zero (drop 13 b))
-  large-port = place-tested Large 47 13 b (unfold computing-tables in refl) large-47 (omega arith) bs
+  pub large-port : front-test (cat-of Large) 47 port-front b ≡ contents-test Large 47 b
+  large-port =
+      front-is Large 47 port-front b (unfold computing-tables computing-tests in refl) (omega arith) bs (unfold computing-tables in refl) port-front
+      ∙ rw (none-left port-front (take port-front b) (length-take-le port-front b (omega arith))) (and-end (contents-test Large 47 b))
 
--- ---- slots
-
--- zeros behind the front of a block, and behind the block
-zeros-behind : (m n : ℕ) (b : List ℕ) → m ≤ n → n ≤ length b → (all-zero (drop m (take n b)) and all-zero (drop n b)) ≡ all-zero (drop m b)
-zeros-behind m n b h k =
-    let l : length (take n b) ≡ n = length-take-le n b k in
-    sym (zeros-append (drop m (take n b)) (drop n b))
-    ∙ ap all-zero (sym (drop-append-le m (take n b) (drop n b) (omega arith)) ∙ ap (λ (x : List ℕ). drop m x) (take-append-drop n b))
-
--- what computes of the UNIs of each product, and which slots there are
-small-uni : Computed Small 11 6
-unfolding computing-tables computing-tests
-small-uni = record { leading = _; others = _; in-order = refl; as-wide = refl; others-free = refl }
-
-large-uni : Computed Large 11 slot-width
-unfolding computing-tables computing-tests
-large-uni = record { leading = _; others = _; in-order = refl; as-wide = refl; others-free = refl }
-
-pub small-keys : automatic-keys (cat-of Small) ≡ key 11 0x0101 ∷ []
-unfolding computing-tables
-small-keys = refl
-
-pub large-keys : automatic-keys (cat-of Large) ≡ key 11 0x0101 ∷ key 11 0x0102 ∷ key 11 0x0103 ∷ key 11 0x0104 ∷ []
-unfolding computing-tables
-large-keys = refl
-
-module _ (b : List ℕ) (h : length b ≡ slots-length) (bs : are-bytes b ≡ true) where
-  abbrev slot-of : ℕ → List ℕ
-  slot-of at = take slot-width (drop at b)
-
-  slot-long : (at : ℕ) → at + slot-width ≤ slots-length → length (slot-of at) ≡ slot-width
-  slot-long at k = length-take-le slot-width (drop at b) (rw (length-drop at b) (omega arith))
-
-  slot-bytes : (at : ℕ) → are-bytes (slot-of at) ≡ true
-  slot-bytes at = bytes-take slot-width (drop at b) (bytes-drop at b bs)
-
-  pub small-slots : slots-test (cat-of Small) (automatic-keys (cat-of Small)) b ≡ (contents-test Small 11 (slot-of 0) and all-zero (drop 6 b))
-  unfolding slots-test
-  small-slots =
-      let l = slot-long 0 (omega arith) in
-      rw (
-        small-keys,
-        computed-test Small 11 6 (slot-of 0) small-uni (omega arith) (slot-bytes 0),
-        and-assoc (contents-test Small 11 (slot-of 0)) (all-zero (drop 6 (slot-of 0))) (all-zero (drop slot-width b)),
-        zeros-behind 6 slot-width b (omega arith) (omega arith),
-      )
-      refl
-
-  slot-block : (at : ℕ) → at + slot-width ≤ slots-length → family-test (cat-of Large) (family (cat-of Large) 11) (slot-of at) ≡ contents-test Large 11 (slot-of at)
-  slot-block at k =
-      let l = slot-long at k in
-      computed-test Large 11 slot-width (slot-of at) large-uni (omega arith) (slot-bytes at)
-      ∙ rw (none-left slot-width (slot-of at) l) (and-end (contents-test Large 11 (slot-of at)))
-
-  pub large-slots : slots-test (cat-of Large) (automatic-keys (cat-of Large)) b
-      ≡ (contents-test Large 11 (slot-of 0) and (contents-test Large 11 (slot-of 15) and (contents-test Large 11 (slot-of 30) and contents-test Large 11 (slot-of 45))))
-  unfolding slots-test
-  large-slots = rw (
-    large-keys,
-    drop-drop slot-width 15 b,
-    drop-drop slot-width 30 b,
-    drop-drop slot-width 45 b,
-    none-left slots-length b h,
-    slot-block 0 (omega arith),
-    slot-block 15 (omega arith),
-    slot-block 30 (omega arith),
-    slot-block 45 (omega arith),
-    and-end (contents-test Large 11 (slot-of 45)),
-  )
-      refl
-
--- a bridge service profile is tested alike in every product
-pub profile-alike : (pr : Product) (b : List ℕ) → contents-test pr 45 b ≡ contents-test Small 45 b
-unfolding computing-tables computing-tests
-profile-alike Small b = refl
-profile-alike Large b = refl
+pub port-parts : (pr : Product) (b : List ℕ) → length b ≡ place-width
+    → entry-test (cat-of pr) 47 b ≡ (front-test (cat-of pr) 47 port-front b and all-zero (drop port-front b))
+port-parts pr b l =
+    let narrow = in-each (λ cat. leb (family-width (family cat 47)) port-front) (unfold computing-tables in refl) pr in
+    fronted (cat-of pr) 47 port-front b (leb-le (family-width (family (cat-of pr) 47)) port-front narrow) (omega (arith, l))
 
 -- ---- class 2: any byte is a legal counter
 
@@ -220,7 +151,8 @@ counter-wide : (pr : Product) → family-width (family (cat-of pr) ont-data) ≡
 counter-wide pr = sym (same-number (λ cat. family-width (family cat ont-data)) {x = ont-data-width} (unfold computing-tables in refl) pr)
 
 pub any-counter : (pr : Product) (x : List ℕ) → length x ≡ ont-data-width → are-bytes x ≡ true → family-test (cat-of pr) (family (cat-of pr) ont-data) x ≡ true
+unfolding family-test
 any-counter pr x len bs =
     let w = counter-wide pr in
-    free-tested pr (family (cat-of pr) ont-data) x (family-classes (cat-of pr) (well-formed-of pr) ont-data) (omega (arith, len)) bs (counter-free pr)
-    ∙ rw (w) (none-left ont-data-width x len)
+    and-true (free-legal pr (family (cat-of pr) ont-data) x (family-classes (cat-of pr) (well-formed-of pr) ont-data) (omega (arith, len)) bs (counter-free pr))
+    (rw w (none-left ont-data-width x len))

@@ -1,4 +1,3 @@
 pub mod ContentsTested
 pub mod Unis
 pub mod Entries
-pub mod AlarmBytes

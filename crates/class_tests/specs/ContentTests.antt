@@ -75,6 +75,10 @@ lines-test cat m b = all-pass (map (λ e. line-test cat m b (e .1)) (judged-line
 unfoldable pub contents-test : Product → ℕ → List ℕ → Bool
 contents-test pr c b = lines-test (cat-of pr) (lines-in (lines-of pr) c) b
 
+-- the two lines of a port that belong together: its TPType, and its TPPointer, which is judged where TPType is 1
+abbrev pub pointer-test : Product → List ℕ → Bool
+pointer-test pr b = (eqb (byte b 3) 1 or eqb (byte b 3) 2) and cond (eqb (byte b 3) 1) (may-be-there (class (cat-of pr) 11 .creation) (two b 4)) true
+
 unfoldable pub computing-tests : ℕ
 unfolding judged-lines joined all-pass lines-test contents-test
 computing-tests = 0

@@ -3,3 +3,4 @@ pub mod Parted
 pub mod Writes
 pub mod Tests
 pub mod Freezing
+pub mod Ranges

@@ -14,7 +14,7 @@ use Rattle.rules.proofs.Conjunctions.{join-assoc, join-end}
 use Rattle.rules.proofs.Laws.{cases, both, eqb-true, eqb-false, eqb-eq, same?, same-eq}
 use Rattle.rules.specs.Bytes.{all-zero}
 
-or-test : (a b : ℕ) → eqb (bitOr a b) 0 ≡ (eqb a 0 && eqb b 0)
+pub or-test : (a b : ℕ) → eqb (bitOr a b) 0 ≡ (eqb a 0 && eqb b 0)
 or-test a b = same? a 0
     (λ e. rw (e, or-zero-l b))
     (λ e. rw (eqb-false a 0 e) (eqb-false (bitOr a b) 0 (λ q. e (omega (arith, or-add-and a b, and-le-r a b)))))

@@ -19,7 +19,7 @@ use Rattle.rules.proofs.Standing.{automatic-rise}
 use Rattle.store.specs.Layout.{slot-count, code-alarms, fits}
 use Rattle.store.specs.Decode.{read-alarms}
 use Rattle.store.proofs.Widths.{slots-are-enough}
-use Rattle.class_tests.specs.Tests.{alarm-byte-test, alarms-test}
+use Rattle.slot_tests.specs.Tests.{alarm-byte-test, alarms-test}
 use Rattle.rules.proofs.Conjunctions.{and-assoc, past, last-of}
 use Rattle.soundness.proofs.Blocks.{fill-take}
 use Rattle.store.proofs.AlarmBits.{shown-by, length-shown, byte-shown}

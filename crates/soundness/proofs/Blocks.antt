@@ -10,16 +10,8 @@ use lib.Dec.{eqb}
 use Rattle.rules.specs.Maps.{_and_, all, same}
 use Rattle.rules.specs.Bytes.{two, bytes, fill, are-bytes, all-zero}
 use Rattle.rules.proofs.Laws.{both, and-true, bool-eq, eqb-true, eqb-eq, same-refl, true-and, ltb-lt}
-use Rattle.rules.proofs.Conjunctions.{and-assoc}
 use Rattle.rules.proofs.ByteLaws.{fill-is}
-
--- two blocks of one length, and what follows them
-pub same-append : (x y u v : List ℕ) → length x ≡ length u → same (x ++ y) (u ++ v) ≡ (same x u and same y v)
-unfolding same
-same-append [] y [] v h = sym (true-and (same y v))
-same-append [] y (a ∷ u) v h = absurd (omega (arith, h))
-same-append (a ∷ x) y [] v h = absurd (omega (arith, h))
-same-append (a ∷ x) y (b ∷ u) v h = rw (same-append x y u v (omega (arith, h))) (sym (and-assoc (eqb a b) (same x u) (same y v)))
+use Rattle.bulk_octets.proofs.Pieces.{same-append}
 
 -- a block is the front of what it is compared with
 pub same-front : (x y b : List ℕ) (n : ℕ) → length x ≡ n → n ≤ length b → same (x ++ y) b ≡ (same x (take n b) and same y (drop n b))

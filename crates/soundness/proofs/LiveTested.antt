@@ -20,7 +20,8 @@ use Rattle.store.specs.Layout.{ont-data-width, slot-count, slots-length, slot-w
 use Rattle.store.specs.Decode.{read-entry, read-slots, read-table, read-live, read-alarms}
 use Rattle.store.proofs.Widths.{class-2-fits}
 use Rattle.store.proofs.TablesBack.{frozen-live, entry-live}
-use Rattle.class_tests.specs.Tests.{family-test, alarms-test}
+use Rattle.class_tests.specs.Tests.{family-test}
+use Rattle.slot_tests.specs.Tests.{alarms-test}
 use Rattle.soundness.specs.Tests.{table-test}
 use Rattle.soundness.proofs.TableTested.{keys-of-entry, keys-of-slots, entry-tested, table-tested}
 use Rattle.soundness.proofs.AlarmsTested.{bitmaps-tested}

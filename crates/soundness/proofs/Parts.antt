@@ -2,22 +2,22 @@
 use Prim.Native.Nat.{ℕ, zero, suc, _+_, _*_, _/_, _≤_, _<_}
 use native.Mathlib.Omega.{arith}
 use mathlib.Core.Path.{_≡_, refl, sym, _∙_, ap}
-use mathlib.Core.Bool.{Bool, not, _&&_}
+use mathlib.Core.Bool.{Bool, true, not, _&&_}
 use mathlib.Core.List.{List, [], _∷_}
 use lib.ListN.{length, take, drop, getD}
-use lib.Seq.{drop-drop, take-take, getD-take, take-nil}
+use lib.Seq.{drop-drop, take-take, getD-take, take-nil, getD-drop}
 use lib.Dec.{eqb}
-use Rattle.rules.specs.Maps.{_and_, is-some, first-that-applies}
+use Rattle.rules.specs.Maps.{_and_, is-some, first-that-applies, same}
 use Rattle.rules.specs.Bytes.{byte, two, all-zero}
 use Rattle.rules.specs.Masks.{total}
 use Rattle.rules.specs.Catalogue.{Catalogue}
 use Rattle.rules.specs.Legal.{automatic-keys, header-drops}
 use Rattle.rules.specs.Run.{store-length}
-use Rattle.rules.proofs.Laws.{cases, same?, eqb-true, eqb-false}
+use Rattle.rules.proofs.Laws.{cases, same?, eqb-true, eqb-false, true-and, same-eq}
 use Rattle.store.specs.Layout.{part-lengths, slot-count, table-length, block-length, command-length, memory-length, nth-memory, nth-alarms, nth-walk, nth-table, nth-upload}
 use Rattle.store.specs.Layout.{memory-at, alarms-at, walk-at, live-at, table-at, upload-at}
 use Rattle.store.specs.Decode.{cut-parts}
-use Rattle.class_tests.specs.Tests.{alarms-test}
+use Rattle.slot_tests.specs.Tests.{alarms-test}
 use Rattle.soundness.specs.Tests.{memory-test, optional-test, store-test, table-test}
 
 -- ---- the remembered command
@@ -35,7 +35,7 @@ none-of-three : (p q r : Bool) → not (is-some (first-that-applies {A = ℕ} ((
 unfolding first-that-applies
 none-of-three p q r = cases p (λ e. rw e (cases q (λ f. rw f (cases r (λ g. rw g) (λ g. rw g))) (λ f. rw f))) (λ e. rw e)
 
-pub memory-bytes : (b : List ℕ) → memory-test b ≡ (eqb (byte b 3) 0x0A && (eqb (byte b 2 / 32) 2 && not (eqb (byte b 0) 0 && eqb (byte b 1) 0)))
+memory-bytes : (b : List ℕ) → memory-test b ≡ (eqb (byte b 3) 0x0A && (eqb (byte b 2 / 32) 2 && not (eqb (byte b 0) 0 && eqb (byte b 1) 0)))
 unfolding memory-test header-drops
 memory-bytes b =
     rw (
@@ -47,6 +47,10 @@ memory-bytes b =
     )
     (none-of-three (eqb (byte b 3) 0x0A) (eqb (byte b 2 / 32) 2) (eqb (two b 0) 0))
 
+-- behind the mark that there is one
+pub memory-behind : (b : List ℕ) → memory-test (drop 1 b) ≡ (eqb (byte b 4) 0x0A && (eqb (byte b 3 / 32) 2 && not (eqb (byte b 1) 0 && eqb (byte b 2) 0)))
+memory-behind b = memory-bytes (drop 1 b) ∙ rw (getD-drop 1 b 3 0, getD-drop 1 b 2 0, getD-drop 1 b 0 0, getD-drop 1 b 1 0) refl
+
 -- ---- what may be absent
 
 module _ (t : List ℕ → Bool) (b : List ℕ) where
@@ -57,6 +61,18 @@ module _ (t : List ℕ → Bool) (b : List ℕ) where
   pub present : (byte b 0 ≡ 0 → ⊥) → optional-test t b ≡ (eqb (byte b 0) 1 and t (drop 1 b))
   unfolding optional-test
   present n = rw (eqb-false (byte b 0) 0 n)
+
+-- ---- the live table, and what may be absent beside it
+
+module _ (t : List ℕ → Bool) (live b : List ℕ) (fine : t (drop 1 live) ≡ true) where
+  pub none-beside : byte b 0 ≡ 0 → (t (drop 1 live) and optional-test t b) ≡ all-zero (drop 1 b)
+  none-beside e = rw (fine, true-and) (absent t b e)
+
+  pub beside : (byte b 0 ≡ 0 → ⊥) → (t (drop 1 live) and optional-test t b) ≡ (eqb (byte b 0) 1 and t (drop 1 b))
+  beside n = rw (fine, true-and) (present t b n)
+
+  pub same-beside : (byte b 0 ≡ 0 → ⊥) → byte b 0 ≡ 1 → same (drop 1 live) (drop 1 b) ≡ true → (t (drop 1 live) and optional-test t b) ≡ true
+  same-beside n e h = beside n ∙ rw (eqb-true (byte b 0) 1 e, ← same-eq (drop 1 live) (drop 1 b) h, fine) (true-and true)
 
 -- ---- where the parts lie
 

@@ -21,7 +21,8 @@ use Rattle.store.specs.Layout.{ont-data-width, slot-count, table-length, memory
 use Rattle.store.specs.Layout.{encode, fits, nth-product, nth-alarm-number, nth-memory, nth-alarms, nth-walk, nth-ont-data, nth-table, nth-upload}
 use Rattle.store.specs.Decode.{read-alarms, read-memory, read-table, read-state, cut-parts, nth-part}
 use Rattle.store.proofs.Parts.{Remembers, each-part-has-its-length, parts-lengths}
-use Rattle.class_tests.specs.Tests.{family-test, alarms-test}
+use Rattle.class_tests.specs.Tests.{family-test}
+use Rattle.slot_tests.specs.Tests.{alarms-test}
 use Rattle.rules.proofs.Conjunctions.{and-end}
 use Rattle.soundness.specs.Tests.{memory-test, table-test, optional-test, store-test}
 use Rattle.soundness.proofs.Blocks.{same-front}

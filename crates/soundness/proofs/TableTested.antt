@@ -8,7 +8,7 @@ use lib.ListN.{length, take, drop, length-append, length-drop}
 use lib.Seq.{length-take-le, take-add, drop-drop}
 use lib.Dec.{leb}
 use Rattle.rules.specs.Maps.{_and_, Map, keys, every, gather, all, same, rising}
-use Rattle.rules.specs.Bytes.{byte, two, bytes, fill, all-zero, are-bytes}
+use Rattle.rules.specs.Bytes.{byte, two, bytes, fill, are-bytes}
 use Rattle.rules.specs.Masks.{total}
 use Rattle.rules.specs.Catalogue.{Class, Catalogue, class, size-of, stored-numbers, is-created, family}
 use Rattle.rules.specs.State.{Entry, class-of, number-of}
@@ -24,9 +24,11 @@ use Rattle.store.specs.Layout.{family-width, fits}
 use Rattle.store.specs.Decode.{read-contents, read-entry, read-slots, read-place, read-places, read-table}
 use Rattle.store.proofs.Widths.{slots-are-enough, places-are-enough, slot-fits, place-fits}
 use Rattle.store.proofs.TablesBack.{slot-length, place-has-its-length}
-use Rattle.class_tests.specs.Tests.{family-test, slots-test}
-use Rattle.rules.proofs.Conjunctions.{and-assoc, and-swap}
-use Rattle.soundness.specs.Tests.{key-in, place-test, places-test, table-test}
+use Rattle.class_tests.specs.Tests.{family-legal, family-test}
+use Rattle.slot_tests.specs.Tests.{slots-test}
+use Rattle.rules.proofs.Conjunctions.{and-swap}
+use Rattle.place_runs.specs.Tests.{key-in, place-test, places-test}
+use Rattle.soundness.specs.Tests.{table-test}
 use Rattle.soundness.proofs.Blocks.{same-front, same-zeros, four-front, fill-front, fill-take}
 use Rattle.store.proofs.ContentsBack.{bytes-of-cut}
 
@@ -68,29 +70,29 @@ module _ (cat : Catalogue) where
   abbrev pub legal-each : Entry → Bool
   legal-each e = every (λ c r. legal-contents cat (class cat c) r) e
 
-  -- legal contents and zeros behind them
-  pub family-tested : (fam : Map Class) (b : List ℕ) → Each (λ d k. class cat d ≡ k) fam
-      → (legal-each (read-entry fam b) and all-zero (drop (family-width fam) b)) ≡ family-test cat fam b
-  unfolding every read-entry family-width family-test
-  family-tested [] b f = true-and (all-zero b)
-  family-tested (e ∷ fam) b f =
-      let w : ℕ = contents-width (e .1) in
-      let a : Bool = legal-contents cat (e .1) (read-contents (e .1) b) in
-      let l : Bool = legal-each (read-entry fam (drop w b)) in
-      let z : Bool = all-zero (drop (family-width fam) (drop w b)) in
-      rw (f .0, ← drop-drop (family-width fam) w b, ← family-tested fam (drop w b) (f .1))
-      (and-assoc a l z)
+  -- what is read from a family's bytes is legal if they pass
+  family-read : (fam : Map Class) (b : List ℕ) → Each (λ d k. class cat d ≡ k) fam → legal-each (read-entry fam b) ≡ family-legal cat fam b
+  unfolding every read-entry family-legal
+  family-read [] b f = refl
+  family-read (e ∷ fam) b f = rw (f .0, family-read fam (drop (contents-width (e .1)) b) (f .1)) refl
 
 module _ (cat : Catalogue) (wf : WellFormed cat) where
   -- a block of n bytes that holds an entry of class c
   pub entry-tested : (k n : ℕ) (b : List ℕ) → length b ≡ n → family-width (family cat (class-of k)) ≤ n
       → (legal-entry cat k (read-entry (family cat (class-of k)) b) and same (fill n (entry-bytes (read-entry (family cat (class-of k)) b))) b)
       ≡ family-test cat (family cat (class-of k)) b
-  unfolding legal-entry
+  unfolding legal-entry family-test
   entry-tested k n b l h =
       let fam : Map Class = family cat (class-of k) in
-      rw (bytes-of-entry fam b, fill-take n (family-width fam) b l h, keys-of-entry fam b, same-refl (keys fam), true-and (legal-each cat (read-entry fam b)))
-      (family-tested cat fam b (family-classes cat wf (class-of k)))
+      rw (
+        bytes-of-entry fam b,
+        fill-take n (family-width fam) b l h,
+        keys-of-entry fam b,
+        same-refl (keys fam),
+        true-and (legal-each cat (read-entry fam b)),
+        family-read cat fam b (family-classes cat wf (class-of k)),
+      )
+      refl
 
   -- ---- slots
 

@@ -16,7 +16,7 @@ use Rattle.rules.proofs.Laws.{cases, never, both, and-true, le-leb}
 use Rattle.rules.proofs.Standing.{stands, all-imp, automatic-keys-stand, stands-not-created, stands-leads}
 use Rattle.store.specs.Layout.{slot-count, code-alarms, fits}
 use Rattle.store.specs.Decode.{read-alarms}
-use Rattle.class_tests.specs.Tests.{alarms-test}
+use Rattle.slot_tests.specs.Tests.{alarms-test}
 use Rattle.rules.proofs.Conjunctions.{and-end}
 use Rattle.store.proofs.AlarmBits.{shown-by}
 use Rattle.soundness.proofs.AlarmsTested.{bitmaps-tested}

@@ -1,32 +1,20 @@
 -- Soundness as tests of bytes, in the order in which the code makes them.
-use Prim.Native.Nat.{ℕ, zero, suc, _+_}
+use Prim.Native.Nat.{_+_, ℕ}
 use mathlib.Core.Bool.{Bool, not, cond}
 use mathlib.Core.List.{List}
 use lib.ListN.{take, drop}
 use lib.Dec.{eqb, leb}
 use Rattle.rules.specs.Maps.{_and_, is-some, first-that-applies}
-use Rattle.rules.specs.Bytes.{byte, two, all-zero}
-use Rattle.rules.specs.Catalogue.{Catalogue, key}
+use Rattle.rules.specs.Bytes.{byte, all-zero}
+use Rattle.rules.specs.Catalogue.{Catalogue}
 use Rattle.rules.specs.Legal.{automatic-keys, header-drops}
-use Rattle.store.specs.Layout.{slots-length, key-length, place-length, command-length, nth-memory, nth-alarms, nth-walk, nth-table}
+use Rattle.store.specs.Layout.{slots-length, command-length, nth-memory, nth-alarms, nth-walk, nth-table}
 use Rattle.store.specs.Layout.{nth-upload}
 use Rattle.store.specs.Decode.{nth-part}
-use Rattle.class_tests.specs.Tests.{slots-test, entry-test, alarms-test}
+use Rattle.slot_tests.specs.Tests.{slots-test, alarms-test}
+use Rattle.place_runs.specs.Tests.{places-test}
 
 -- ---- a table
-
--- the key that a place begins with
-abbrev pub key-in : List ℕ → ℕ
-key-in r = key (two r 0) (two r 2)
-
--- a place whose key is `low` or more
-unfoldable pub place-test : Catalogue → ℕ → List ℕ → Bool
-place-test cat low r = leb low (key-in r) and entry-test cat (two r 0) (drop key-length r)
-
--- so many places, whose keys rise, then zeros
-unfoldable pub places-test : Catalogue → ℕ → ℕ → List ℕ → Bool
-places-test cat zero low b = all-zero b
-places-test cat (suc n) low b = place-test cat low (take place-length b) and places-test cat n (suc (key-in (take place-length b))) (drop place-length b)
 
 unfoldable pub table-test : Catalogue → List ℕ → Bool
 table-test cat b = leb (byte b 0) (cat .places)

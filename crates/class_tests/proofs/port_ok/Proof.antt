@@ -1,58 +1,41 @@
-use mathlib.Core.Path.{sym}
+use mathlib.Core.Path.{refl, sym, _∙_}
+use mathlib.Core.Logic.{⊎-elim}
+use mathlib.Core.Bool.{_&&_}
+use lib.Dec.{leb}
 use Rattle.rules.specs.Maps.{_and_}
+use Rattle.rules.specs.Bytes.{byte}
 use Rattle.rules.proofs.ByteLaws.{known-bytes}
+use Rattle.class_tables.specs.declared.Product.the-variants.{Small, Large}
+use Rattle.class_tables.specs.Computing.{computing-tables}
+use Rattle.class_tests.specs.ContentTests.{contents-test, computing-tests}
 use Rattle.class_tests.proofs.Entries.{small-port, large-port}
 use borrow.Author.Needs.{needs}
 use Rattle.class_tests.proofs.port_ok.Statement.{statement}
 use Rattle.class_tests.proofs.port_ok.Tie as tie
-use Rattle.class_tests.proofs.port_ok.Reads as reads
-use Rattle.class_tests.proofs.port_ok.Lts as lts
-use Rattle.class_tests.proofs.port_legal.Reads as port-legal-reads
-use Rattle.octets.proofs.zeros_from.Reads as zeros-from-reads
-
-enum-told : tie.Need-enum-told
-enum-told c = search needs
-
-port-legal-requires : tie.Need-port-legal-requires
-port-legal-requires c κs = search needs
-
-zeros-from-requires : tie.Need-zeros-from-requires
-zeros-from-requires c κs = search needs
-
-enum-told-2 : tie.Need-enum-told-2
-enum-told-2 c = search needs
-
-port-legal-requires-2 : tie.Need-port-legal-requires-2
-port-legal-requires-2 c κs = search needs
-
-zeros-from-requires-2 : tie.Need-zeros-from-requires-2
-zeros-from-requires-2 c κs = search needs
 
 returns : tie.Need-returns
 returns c =
-    let start = c .before .before .before .before in
-    let known = known-bytes (start .before .args .c .now) (λ i. start .shared-slice-known .given i .fits) in
-    let told = c .before .before .enum-told .given .1 in
-    rw (told, c .before .port-legal .ensures, told, c .zeros-from .ensures)
-    (sym (unfold _and_ in small-port (start .before .args .c .now) (search needs) known))
-
-returns-2 : tie.Need-returns-2
-returns-2 c =
-    let start = c .before .before .before .before in
-    let known = known-bytes (start .before .args .c .now) (λ i. start .shared-slice-known .given i .fits) in
-    let told = c .before .before .enum-told2 .given .1 in
-    rw (told, c .before .port-legal2 .ensures, told, c .zeros-from2 .ensures)
-    (sym (unfold _and_ in large-port (start .before .args .c .now) (search needs) known))
+    let read = c .before .before .before .before in
+    let start = read .before .before .before in
+    let b = start .before .args .c .now in
+    let known = known-bytes b (λ i. start .shared-slice-known .given i .fits) in
+    rw (read .number-at2 .ensures, read .before .number-at .ensures, read .before .before .pointer-legal .ensures)
+    (⊎-elim
+    (λ w. rw (w .1 .given .1, w .2)
+    (_∙_ {b = contents-test Small 47 b && leb (byte b 12) 0} (unfold computing-tables computing-tests in refl) (sym (unfold _and_ in small-port b (search needs) known))))
+    (λ w. rw (w .1 .given .1, w .2) (_∙_ {b = contents-test Large 47 b} (unfold computing-tables computing-tests in refl) (sym (large-port b (search needs) known))))
+    (c .before .before .before .match .came))
 
 pub port-ok-spec : {M : Type 1} → statement M
 port-ok-spec =
     tie.close
     (tie.spec
-    enum-told
-    port-legal-requires
-    zeros-from-requires
-    enum-told-2
-    port-legal-requires-2
-    zeros-from-requires-2
-    returns
-    returns-2)
+    (λ c κs. search needs)
+    (λ c κs. search needs)
+    (λ c κs. search needs)
+    (λ c. search needs)
+    (λ c. search needs)
+    (λ c. search needs)
+    (λ c. search needs)
+    (λ c. search needs)
+    returns)

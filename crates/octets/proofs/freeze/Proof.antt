@@ -16,27 +16,6 @@ abbrev μ-loop : tie.MeasureT-loop
 loop-holds : tie.Need-loop-holds Inv-loop μ-loop
 loop-holds c = (search needs, search needs, freeze-start (c .args .s .now) (c .args .from) (c .args .to))
 
-add-s : tie.Need-add-s Inv-loop μ-loop
-add-s c = search needs
-
-slice-read-s : tie.Need-slice-read-s Inv-loop μ-loop
-slice-read-s c = search needs
-
-add-s-2 : tie.Need-add-s-2 Inv-loop μ-loop
-add-s-2 c = search needs
-
-add-s-3 : tie.Need-add-s-3 Inv-loop μ-loop
-add-s-3 c = search needs
-
-slice-write-s : tie.Need-slice-write-s Inv-loop μ-loop
-slice-write-s c = search needs
-
-add-i : tie.Need-add-i Inv-loop μ-loop
-add-i c = search needs
-
-loop-less : tie.Need-loop-less Inv-loop μ-loop
-loop-less c = search needs
-
 loop-again : tie.Need-loop-again Inv-loop μ-loop
 loop-again c =
     let l = c .before .before in
@@ -46,9 +25,6 @@ loop-again c =
       simp length-set (search needs),
       freeze-again (a .s .now) (a .from) (a .to) (a .n) (f .pre .0) (f .pre .1) (l .loop .i) (search needs) (l .loop .s) (l .loop .inv .2),
     )
-
-slice-write-s-2 : tie.Need-slice-write-s-2 Inv-loop μ-loop
-slice-write-s-2 c = search needs
 
 same-length : tie.Need-same-length Inv-loop μ-loop
 same-length c = simp length-set (search needs)
@@ -67,14 +43,14 @@ freeze-spec =
     Inv-loop
     μ-loop
     loop-holds
-    add-s
-    slice-read-s
-    add-s-2
-    add-s-3
-    slice-write-s
-    add-i
-    loop-less
+    (λ c. search needs)
+    (λ c. search needs)
+    (λ c. search needs)
+    (λ c. search needs)
+    (λ c. search needs)
+    (λ c. search needs)
+    (λ c. search needs)
     loop-again
-    slice-write-s-2
+    (λ c. search needs)
     same-length
     returns)

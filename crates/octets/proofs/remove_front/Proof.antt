@@ -6,27 +6,6 @@ use borrow.Author.Needs.{needs}
 use Rattle.octets.proofs.remove_front.Statement.{statement}
 use Rattle.octets.proofs.remove_front.Tie as tie
 
-shift-down-requires : tie.Need-shift-down-requires
-shift-down-requires c κs = search needs
-
-sub-a : tie.Need-sub-a
-sub-a c = search needs
-
-sub-zero : tie.Need-sub-zero
-sub-zero c = search needs
-
-part-zero-start : tie.Need-part-zero-start
-part-zero-start c = search needs
-
-part-zero-end : tie.Need-part-zero-end
-part-zero-end c = search needs
-
-zero-requires : tie.Need-zero-requires
-zero-requires c κs = search needs
-
-same-length : tie.Need-same-length
-same-length c = search needs
-
 returns : tie.Need-returns
 returns c =
     let u = c .before .before .before .before .before .before in
@@ -39,11 +18,11 @@ pub remove-front-spec : {M : Type 1} → statement M
 remove-front-spec =
     tie.close
     (tie.spec
-    shift-down-requires
-    sub-a
-    sub-zero
-    part-zero-start
-    part-zero-end
-    zero-requires
-    same-length
+    (λ c κs. search needs)
+    (λ c. search needs)
+    (λ c. search needs)
+    (λ c. search needs)
+    (λ c. search needs)
+    (λ c κs. search needs)
+    (λ c. search needs)
     returns)

@@ -23,18 +23,6 @@ returns c = same-not (c .before .args .a .now) (c .before .args .b .now) (c .if1
 loop-holds : tie.Need-loop-holds Inv-loop μ-loop
 loop-holds c = (search needs, search needs, refl)
 
-shared-slice-read-any : tie.Need-shared-slice-read-any Inv-loop μ-loop
-shared-slice-read-any c = search needs
-
-shared-slice-read-any-2 : tie.Need-shared-slice-read-any-2 Inv-loop μ-loop
-shared-slice-read-any-2 c = search needs
-
-add-i : tie.Need-add-i Inv-loop μ-loop
-add-i c = search needs
-
-loop-less : tie.Need-loop-less Inv-loop μ-loop
-loop-less c = search needs
-
 loop-again : tie.Need-loop-again Inv-loop μ-loop
 loop-again c =
     let l = c .before .before .before in
@@ -58,9 +46,9 @@ same-bytes-spec =
     μ-loop
     returns
     loop-holds
-    shared-slice-read-any
-    shared-slice-read-any-2
-    add-i
-    loop-less
+    (λ c. search needs)
+    (λ c. search needs)
+    (λ c. search needs)
+    (λ c. search needs)
     loop-again
     returns-2)

@@ -8,18 +8,6 @@ use borrow.Author.Needs.{needs}
 use Rattle.octets.proofs.zeros_from.Statement.{statement}
 use Rattle.octets.proofs.zeros_from.Tie as tie
 
-sub-zeros : tie.Need-sub-zeros
-sub-zeros c = search needs
-
-part-zeros-start : tie.Need-part-zeros-start
-part-zeros-start c = search needs
-
-part-zeros-end : tie.Need-part-zeros-end
-part-zeros-end c = search needs
-
-zeros-requires : tie.Need-zeros-requires
-zeros-requires c κs = search needs
-
 returns : tie.Need-returns
 returns c =
     let a = c .before .before .before .args in
@@ -27,4 +15,4 @@ returns c =
 
 pub zeros-from-spec : {M : Type 1} → statement M
 zeros-from-spec =
-    tie.close (tie.spec sub-zeros part-zeros-start part-zeros-end zeros-requires returns)
+    tie.close (tie.spec (λ c. search needs) (λ c. search needs) (λ c. search needs) (λ c κs. search needs) returns)

@@ -9,21 +9,6 @@ use Rattle.class_tables.specs.Built.{named-catalogue}
 returns : tie.Need-returns
 returns c = sym (too-short (c .before .before .args .s .now) (c .if1 .taken))
 
-shared-slice-read-product-at : tie.Need-shared-slice-read-product-at
-shared-slice-read-product-at c = search needs
-
-product-at-requires : tie.Need-product-at-requires
-product-at-requires c κs = search needs
-
-enum-known-named : tie.Need-enum-known-named
-enum-known-named c = search needs
-
-parts-ok-requires : tie.Need-parts-ok-requires
-parts-ok-requires c κs = search needs
-
-enum-told : tie.Need-enum-told
-enum-told c = search needs
-
 returns-2 : tie.Need-returns-2
 returns-2 c =
     let told = c .before .before .named .given in
@@ -41,4 +26,4 @@ returns-3 c =
     (sym (called .product-at .ensures .found) ∙ ap named-catalogue (c .enum-told .given .1)))
 
 pub store-ok-spec : {M : Type 1} → statement M
-store-ok-spec = tie.close (tie.spec returns shared-slice-read-product-at product-at-requires enum-known-named parts-ok-requires enum-told returns-2 returns-3)
+store-ok-spec = tie.close (tie.spec returns (λ c. search needs) (λ c κs. search needs) (λ c. search needs) (λ c κs. search needs) (λ c. search needs) returns-2 returns-3)

@@ -2,38 +2,17 @@ use mathlib.Core.Path.{refl, sym, _∙_}
 use Rattle.rules.specs.Maps.{_and_}
 use Rattle.class_tables.specs.Built.{cat-of}
 use Rattle.rules.specs.Legal.{automatic-keys}
-use Rattle.class_tests.specs.Tests.{alarms-test}
+use Rattle.slot_tests.specs.Tests.{alarms-test}
 use Rattle.soundness.proofs.Turns.{to-the-end}
 use Rattle.soundness.proofs.Parts.{absent, present}
 use borrow.Author.Needs.{needs}
 use Rattle.soundness.proofs.walk_part_ok.Statement.{statement}
 use Rattle.soundness.proofs.walk_part_ok.Tie as tie
 
-shared-slice-read-if1 : tie.Need-shared-slice-read-if1
-shared-slice-read-if1 c = search needs
-
-zeros-from-requires : tie.Need-zeros-from-requires
-zeros-from-requires c κs = search needs
-
 returns : tie.Need-returns
 returns c =
     let a = c .before .before .before .before .args in
     c .zeros-from .ensures ∙ sym (absent (alarms-test (cat-of (a .product)) (automatic-keys (cat-of (a .product)))) (a .b .now) (c .before .if1 .taken))
-
-shared-slice-read-result : tie.Need-shared-slice-read-result
-shared-slice-read-result c = search needs
-
-sub-alarms-ok : tie.Need-sub-alarms-ok
-sub-alarms-ok c = search needs
-
-part-alarms-ok-start : tie.Need-part-alarms-ok-start
-part-alarms-ok-start c = search needs
-
-part-alarms-ok-end : tie.Need-part-alarms-ok-end
-part-alarms-ok-end c = search needs
-
-alarms-ok-requires : tie.Need-alarms-ok-requires
-alarms-ok-requires c κs = search needs
 
 returns-2 : tie.Need-returns-2
 unfolding _and_
@@ -47,12 +26,12 @@ pub walk-part-ok-spec : {M : Type 1} → statement M
 walk-part-ok-spec =
     tie.close
     (tie.spec
-    shared-slice-read-if1
-    zeros-from-requires
+    (λ c. search needs)
+    (λ c κs. search needs)
     returns
-    shared-slice-read-result
-    sub-alarms-ok
-    part-alarms-ok-start
-    part-alarms-ok-end
-    alarms-ok-requires
+    (λ c. search needs)
+    (λ c. search needs)
+    (λ c. search needs)
+    (λ c. search needs)
+    (λ c κs. search needs)
     returns-2)

@@ -1,0 +1,4 @@
+pub mod Turns
+pub mod Spare
+pub mod Places
+pub mod Created
