@@ -128,7 +128,8 @@ FirstIsLegal cat c a (stored (copied m)) =
     (is-created (class cat (leader cat c) .creation) ≡ true)
     × (attribute (class cat (leader cat c)) m .C ≡ true)
     × (size-of (class cat (leader cat c)) m ≡ a .size)
-    × ((v : List ℕ) (theirs ours : ℕ → List ℕ) → length v ≡ a .size → are-bytes v ≡ true → passes (there-or-gone cat) ((attribute (class cat (leader cat c)) m .rule) v theirs) ≡ true
+    × ((v : List ℕ) (theirs ours : ℕ → List ℕ) → length v ≡ a .size → are-bytes v ≡ true
+    → passes (there-or-gone cat) ((attribute (class cat (leader cat c)) m .rule) v theirs) ≡ true
     → passes (there-or-gone cat) ((a .rule) v ours) ≡ true)
 FirstIsLegal cat c a (of-creator m) = Unit {0}
 FirstIsLegal cat c a (count-of d m) = Unit {0}

@@ -12,14 +12,16 @@ unfolding _and_ _or_
 returns c =
     let read = c .before .before .before in
     let a = read .before .before .before .before .args in
-    rw (eqb-true _ _ (read .before .if1 .taken), ← read .number-at .ensures) (a-uni (a .product) (read .number-at .result) (search needs) (c .enum-told .given .1) (c .before .before .slot-of .ensures))
+    rw (eqb-true _ _ (read .before .if1 .taken), ← read .number-at .ensures)
+    (a-uni (a .product) (read .number-at .result) (search needs) (c .enum-told .given .1) (c .before .before .slot-of .ensures))
 
 returns-2 : tie.Need-returns-2
 unfolding _and_ _or_
 returns-2 c =
     let read = c .before .before .before in
     let a = read .before .before .before .before .args in
-    rw (eqb-true _ _ (read .before .if1 .taken), ← read .number-at .ensures) (no-uni (a .product) (read .number-at .result) (search needs) (c .enum-told2 .given .1) (c .before .before .slot-of .ensures))
+    rw (eqb-true _ _ (read .before .if1 .taken), ← read .number-at .ensures)
+    (no-uni (a .product) (read .number-at .result) (search needs) (c .enum-told2 .given .1) (c .before .before .slot-of .ensures))
 
 returns-3 : tie.Need-returns-3
 unfolding _or_

@@ -17,7 +17,9 @@ use Rattle.place_runs.proofs.ports.Statement.{statement}
 use Rattle.place_runs.proofs.ports.Tie as tie
 
 abbrev Inv-loop : tie.InvT-loop
-Inv-loop product b from n spare₀ low₀ i₀ spare low i = (from ≤ i) × (i ≤ n) × (low ≤ key 48 0) × (length spare ≡ spare-length) × (zeroed (all-zero spare) (run-end (cat-of product) 47 b (n - i) i low) ≡ run-end (cat-of product) 47 b (n - from) from (key 47 0))
+Inv-loop product b from n spare₀ low₀ i₀ spare low i =
+    (from ≤ i) × (i ≤ n) × (low ≤ key 48 0) × (length spare ≡ spare-length)
+    × (zeroed (all-zero spare) (run-end (cat-of product) 47 b (n - i) i low) ≡ run-end (cat-of product) 47 b (n - from) from (key 47 0))
 
 abbrev μ-loop : tie.MeasureT-loop
 μ-loop product b from n spare₀ low₀ i₀ spare low i = n - i
@@ -58,8 +60,10 @@ loop-again c =
       omega (arith, key-below (l .loop .low) (read .key-at .result) (key 48 0) (tried .before .in-run .result) (tried .before .in-run .ensures) (tried .if1 .left)),
       ap length (c .before .gather .ensures) ∙ length-gathered (l .loop .spare) (more .result .now) ∙ l .loop .inv .3,
       rw (more-gathered (l .loop .spare) (c .before .gather .last .0) (placed .result .now) (tested .before .before .behind .result .now) (more .result .now)
-          (c .before .gather .ensures) (omega arith) (tested .before .before .behind .ensures .0) (more .ensures .0)) at (run-on (cat-of (a .product)) 47 (a .b .now) (a .n) (l .loop .i) (l .loop .low) (all-zero (l .loop .spare)) _ (l .loop .inv .4) (omega arith) (placed .result .now)
-          (placed .ensures .0) (read .key-at .result) (read .key-at .ensures) (tried .before .in-run .result) (tried .before .in-run .ensures) (tried .if1 .left) (tested .before .before .behind .result .now)
+          (c .before .gather .ensures) (omega arith) (tested .before .before .behind .ensures .0) (more .ensures .0))
+          at (run-on (cat-of (a .product)) 47 (a .b .now) (a .n) (l .loop .i) (l .loop .low) (all-zero (l .loop .spare)) _ (l .loop .inv .4) (omega arith) (placed .result .now)
+          (placed .ensures .0) (read .key-at .result) (read .key-at .ensures) (tried .before .in-run .result) (tried .before .in-run .ensures) (tried .if1 .left)
+          (tested .before .before .behind .result .now)
           (tested .before .before .behind .ensures .0) (tested .before .port-ok .result) (all-zero (drop port-front (tested .before .before .behind .result .now)))
           (port-tested (a .product) (tested .before .before .behind .result .now) (tested .before .port-ok .result) (tested .before .port-ok .ensures) (omega arith)) (tested .if2 .left)),
     )

@@ -13,7 +13,9 @@ use Rattle.place_runs.proofs.profiles.Statement.{statement}
 use Rattle.place_runs.proofs.profiles.Tie as tie
 
 abbrev Inv-loop : tie.InvT-loop
-Inv-loop product b from n low₀ i₀ low i = (from ≤ i) × (i ≤ n) × (low ≤ key 46 0) × (run-end (cat-of product) 45 b (n - i) i low ≡ run-end (cat-of product) 45 b (n - from) from (key 45 0))
+Inv-loop product b from n low₀ i₀ low i =
+    (from ≤ i) × (i ≤ n) × (low ≤ key 46 0)
+    × (run-end (cat-of product) 45 b (n - i) i low ≡ run-end (cat-of product) 45 b (n - from) from (key 45 0))
 
 abbrev μ-loop : tie.MeasureT-loop
 μ-loop product b from n low₀ i₀ low i = n - i
