@@ -335,8 +335,7 @@ pub fn bad_contents(
     let all = class.attributes_of_any_product();
     let (supported, others) = all.split_at(class.attributes(product).len());
     let mut bad = 0;
-    // Soundness tests come here for every instance, so what has no rule is
-    // passed over before its content is looked for.
+    // What has no rule is passed over before its content is looked for.
     for attribute in supported.iter().filter(|attribute| !matches!(attribute.rule, Rule::Any)) {
         let legal = match attribute.stored_in(record) {
             Some(content) => attribute.is_legal(content, record, exists),
@@ -422,7 +421,8 @@ static BRIDGE_CONFIGURATION: [Attribute; 8] = [
 /// Where a port's record has its BridgeIdPointer.
 pub const BRIDGE_POINTER_OFFSET: usize = 2;
 const TP_TYPE_OFFSET: usize = 5;
-const TP_TYPE_UNI: u8 = 1;
+/// The TPType of a port whose TPPointer names an Ethernet UNI.
+pub const TP_TYPE_UNI: u8 = 1;
 
 static PORT_CONFIGURATION: [Attribute; 9] = [
     // BridgeIdPointer, PortNum.

@@ -18,6 +18,7 @@
 pub mod catalogue;
 mod commands;
 pub mod drops;
+mod legal;
 mod message;
 mod reports;
 mod sound;

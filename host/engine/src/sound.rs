@@ -1,9 +1,10 @@
 //! The soundness test: does a store encode a state, and as this engine would?
 
-use crate::catalogue::{bad_contents, Class, Product, MOST_UNIS, PORT_SIZE};
-use crate::message::check_head;
+use crate::catalogue::{Class, Product, MOST_UNIS, PORT_SIZE};
+use crate::legal::{is_configuration_legal, is_port_legal, is_profile_legal, is_uni_legal};
+use crate::message::{check_head, number_at};
 use crate::store::{Bitmaps, View};
-use crate::table::{Table, PLACES};
+use crate::table::{Table, PLACES, PLACE_SIZE};
 
 /// Whether the store encodes a state. The product and length are tested before.
 pub fn is_sound(store: &View) -> bool {
@@ -20,11 +21,16 @@ fn is_memory_sound(store: &View) -> bool {
         || (is_zero(store.remembered_head()) && is_zero(store.remembered_reply()))
 }
 
+/// The table was tested before, so a frozen one with the same bytes needs no
+/// test of its own.
 fn is_upload_sound(store: &View) -> bool {
     let frozen = store.frozen_table();
     match store.upload_mark() {
         0 => is_zero(frozen.bytes()),
-        1 => frozen.counter() == 0 && is_table_sound(&frozen),
+        1 => {
+            frozen.counter() == 0
+                && (frozen.is_same_but_for_counter(&store.table()) || is_table_sound(&frozen))
+        }
         _ => false,
     }
 }
@@ -48,33 +54,51 @@ fn is_table_sound(table: &Table) -> bool {
     table.places_in_use() <= PLACES
         && is_zero(table.unused_places())
         && is_zero(table.unused_unis())
-        && are_contents_legal(table, Class::EthernetUni)
-        && are_numbers_ascending(table, Class::BridgeProfile)
-        && are_contents_legal(table, Class::BridgeProfile)
-        && are_contents_legal(table, Class::BridgeConfiguration)
-        && are_numbers_ascending(table, Class::PortConfiguration)
-        && are_contents_legal(table, Class::PortConfiguration)
-        && are_port_places_filled_with_zeros(table)
+        && are_unis_sound(table)
+        && are_bridges_sound(table)
+        && are_ports_sound(table)
 }
 
-fn are_numbers_ascending(table: &Table, class: Class) -> bool {
-    (1..table.count(class))
-        .all(|index| table.instance(class, index - 1) < table.instance(class, index))
+fn are_unis_sound(table: &Table) -> bool {
+    let product = table.product();
+    table.unis().iter().all(|uni| is_uni_legal(product, uni))
 }
 
-/// A created instance that a rule asks for may have been deleted since; an
-/// instance that can't be created must be there.
-fn are_contents_legal(table: &Table, class: Class) -> bool {
-    let may_have_been = |class: Class, instance| class.is_created() || table.has(class, instance);
-    (0..table.count(class)).all(|index| {
-        bad_contents(table.product(), class, table.record(class, index), &may_have_been) == 0
-    })
+/// Legal contents, by ascending numbers: the lowest that may follow is one
+/// above the last, which may be more than a number of two bytes.
+fn are_bridges_sound(table: &Table) -> bool {
+    let product = table.product();
+    let mut lowest = 0;
+    for bridge in table.bridges() {
+        let number = u32::from(number_at(bridge, 0));
+        if number < lowest || !is_profile_legal(bridge) || !is_configuration_legal(product, bridge)
+        {
+            return false;
+        }
+        lowest = number + 1;
+    }
+    true
 }
 
-/// A port is shorter than its place.
-fn are_port_places_filled_with_zeros(table: &Table) -> bool {
-    let class = Class::PortConfiguration;
-    (0..table.count(class)).all(|index| is_zero(&table.place(class, index)[PORT_SIZE..]))
+/// Legal contents, by ascending numbers, and zeros in what a port, which is
+/// shorter than its place, leaves of it.
+fn are_ports_sound(table: &Table) -> bool {
+    const FILLER: usize = PLACE_SIZE - PORT_SIZE;
+    let product = table.product();
+    let mut lowest = 0;
+    let mut filled = [0; FILLER];
+    for place in table.ports() {
+        let (port, filler) = place.split_first_chunk().expect("a port is shorter than its place");
+        let number = u32::from(number_at(port, 0));
+        if number < lowest || !is_port_legal(product, port) {
+            return false;
+        }
+        lowest = number + 1;
+        for (all, byte) in filled.iter_mut().zip(filler) {
+            *all |= byte;
+        }
+    }
+    filled == [0; FILLER]
 }
 
 /// Most of a store that isn't full is zero, so this takes many bytes at a time
@@ -82,4 +106,105 @@ fn are_port_places_filled_with_zeros(table: &Table) -> bool {
 fn is_zero(bytes: &[u8]) -> bool {
     const PIECE: usize = 128;
     bytes.chunks(PIECE).all(|piece| piece.iter().fold(0, |all, &byte| all | byte) == 0)
+}
+
+#[cfg(test)]
+mod tests {
+    use super::*;
+    use crate::catalogue::bad_contents;
+    use crate::store::{Store, SIZE};
+    use crate::table;
+    use exchange::{Maker, DELETE, SET, UPLOAD};
+
+    /// The same without short cuts: by the catalogue's lists, one thing after
+    /// another, and the frozen table in any case.
+    fn is_sound_by_the_lists(store: &View) -> bool {
+        let frozen = store.frozen_table();
+        is_memory_sound(store)
+            && is_table_sound_by_the_lists(&store.table())
+            && match store.upload_mark() {
+                0 => is_zero(frozen.bytes()),
+                1 => frozen.counter() == 0 && is_table_sound_by_the_lists(&frozen),
+                _ => false,
+            }
+            && are_alarms_sound(store.product(), store.alarms())
+            && is_alarm_walk_sound(store)
+    }
+
+    fn is_table_sound_by_the_lists(table: &Table) -> bool {
+        table.places_in_use() <= PLACES
+            && is_zero(table.unused_places())
+            && is_zero(table.unused_unis())
+            && Class::UPLOADED.into_iter().all(|class| are_instances_sound(table, class))
+            && table.ports().iter().all(|place| is_zero(&place[PORT_SIZE..]))
+    }
+
+    fn are_instances_sound(table: &Table, class: Class) -> bool {
+        let may_have_been =
+            |class: Class, instance| class.is_created() || table.has(class, instance);
+        (0..table.count(class)).all(|index| {
+            let record = table.record(class, index);
+            let is_above =
+                index == 0 || table.instance(class, index - 1) < table.instance(class, index);
+            is_above && bad_contents(table.product(), class, record, &may_have_been) == 0
+        })
+    }
+
+    /// A store after these commands on a fresh product.
+    fn store_after(product: u8, commands: &[[u8; 48]]) -> Vec<u8> {
+        let mut store = vec![0; SIZE];
+        assert_eq!(crate::power_on(&mut store, product), 0);
+        for command in commands {
+            let mut reply = [0; 48];
+            assert_eq!(crate::handle(crate::Test::Soundness, &mut store, command, &mut reply), 0);
+        }
+        store
+    }
+
+    /// Fresh, with a few instances, with these frozen, and with a frozen table
+    /// that has become another one. The numbers of instances are neighbours, so
+    /// that a changed one can be equal to another.
+    fn stores(product: u8) -> [Vec<u8>; 4] {
+        let mut maker = Maker::new(0);
+        let mut commands = vec![];
+        commands.extend((0..4).map(|index| maker.bridge(6 + index)));
+        commands.extend((0..5).map(|index| maker.port(3 + index, 7)));
+        let some = store_after(product, &commands);
+        commands.push(maker.command(UPLOAD, 2, 0, &[]));
+        let frozen = store_after(product, &commands);
+        commands.push(maker.command(SET, 11, 0x0101, &[0x80, 0, 9]));
+        commands.push(maker.command(DELETE, 45, 7, &[]));
+        commands.push(maker.command(DELETE, 47, 6, &[]));
+        [store_after(product, &[]), some, frozen, store_after(product, &commands)]
+    }
+
+    fn judge(store: &mut [u8]) -> bool {
+        let store = Store::trust(store).expect("a store with a product");
+        let sound = is_sound(&store.view());
+        assert_eq!(sound, is_sound_by_the_lists(&store.view()));
+        sound
+    }
+
+    #[test]
+    fn changed_stores_are_judged_as_by_the_lists() {
+        const TABLE_AT: usize = SIZE - 2 * table::SIZE;
+        let mut judged = [0; 2];
+        for mut store in stores(1).into_iter().chain(stores(2)) {
+            assert!(judge(&mut store));
+            // The product stays. A byte of the table is also changed in both.
+            for at in 1..SIZE {
+                for change in [0x01, 0x02, 0x80, 0xFF] {
+                    store[at] ^= change;
+                    judged[usize::from(judge(&mut store))] += 1;
+                    if (TABLE_AT..TABLE_AT + table::SIZE).contains(&at) {
+                        store[at + table::SIZE] ^= change;
+                        judged[usize::from(judge(&mut store))] += 1;
+                        store[at + table::SIZE] ^= change;
+                    }
+                    store[at] ^= change;
+                }
+            }
+        }
+        assert!(judged.iter().all(|&count| count > 1000));
+    }
 }

@@ -87,10 +87,26 @@ impl<'a> Table<'a> {
         &self.bytes[UNIS_AT + self.product.unis() * UNI_SIZE..PLACES_AT]
     }
 
-    /// The whole place of a bridge or port, also the bytes that it doesn't use.
-    pub fn place(&self, class: Class, index: usize) -> &'a [u8] {
-        let start = self.start(class, index);
-        &self.bytes[start..start + PLACE_SIZE]
+    /// The records of the Ethernet UNIs that the product has.
+    pub fn unis(&self) -> &'a [[u8; UNI_SIZE]] {
+        let (unis, _) = self.bytes[UNIS_AT..PLACES_AT].as_chunks();
+        &unis[..self.product.unis()]
+    }
+
+    /// The places of the bridges.
+    pub fn bridges(&self) -> &'a [[u8; PLACE_SIZE]] {
+        &self.places()[..self.count(Class::BridgeProfile)]
+    }
+
+    /// The places of the ports, also the bytes that a port doesn't use.
+    pub fn ports(&self) -> &'a [[u8; PLACE_SIZE]] {
+        &self.places()[self.count(Class::BridgeProfile)..self.places_in_use()]
+    }
+
+    /// Whether another table of the product has the same bytes, except perhaps
+    /// for the sync counter.
+    pub fn is_same_but_for_counter(&self, other: &Table) -> bool {
+        self.bytes[COUNTER_AT + ONT_DATA_SIZE..] == other.bytes[COUNTER_AT + ONT_DATA_SIZE..]
     }
 
     /// The record of the instance at this index among those of its class.
@@ -167,6 +183,10 @@ impl<'a> Table<'a> {
             }
         }
         low
+    }
+
+    fn places(&self) -> &'a [[u8; PLACE_SIZE]] {
+        self.bytes[PLACES_AT..].as_chunks().0
     }
 
     fn start(&self, class: Class, index: usize) -> usize {
