@@ -2,6 +2,11 @@
 
 use ordinary_engine::Test;
 
+/// What a call returns that was answered.
+pub const ANSWERED: u8 = 0;
+/// The drop of a message that isn't 48 bytes long.
+pub const MESSAGE_LENGTH_DROP: u8 = 3;
+
 /// A call without what is lent to it.
 pub enum Call {
     Message(Vec<u8>),
@@ -14,10 +19,23 @@ impl Call {
     /// and those of all class numbers are zero where a reply has them.
     pub fn is_done(&self, slot: &Slot) -> bool {
         match self {
-            Call::Message(_) => slot.number == 0 && slot.reply[8] == 0,
-            Call::Attribute { .. } | Call::Alarm { .. } => matches!(slot.number, 0 | 255),
+            Call::Message(_) => slot.number == ANSWERED && slot.reply[8] == 0,
+            Call::Attribute { .. } | Call::Alarm { .. } => matches!(slot.number, ANSWERED | 255),
         }
     }
+}
+
+pub fn message(bytes: [u8; 48]) -> Call {
+    Call::Message(bytes.to_vec())
+}
+
+/// A message that is dropped right behind the test of soundness.
+pub fn too_short() -> Call {
+    Call::Message(vec![0; 47])
+}
+
+pub fn report(class_id: u16, instance: u16, attribute: u8, content: &[u8]) -> Call {
+    Call::Attribute { class_id, instance, attribute, content: content.to_vec() }
 }
 
 /// What a call left: the number it returned and the reply buffer.
@@ -72,6 +90,23 @@ impl Engine {
             Engine::Ordinary(test) => each(calls, stores, slots, |store, call, reply| {
                 call_ordinary(test, store, call, reply)
             }),
+        }
+    }
+
+    /// The same with one more test of soundness in front of each call, on the
+    /// state that the call meets.
+    pub fn run_tested(self, calls: &[Call], stores: &mut [Vec<u8>], slots: &mut [Slot]) {
+        let test = too_short();
+        each(calls, stores, slots, |store, call, reply| {
+            assert_eq!(self.call(store, &test, &mut [0; 48]), MESSAGE_LENGTH_DROP);
+            self.call(store, call, reply)
+        });
+    }
+
+    fn call(self, store: &mut [u8], call: &Call, reply: &mut [u8]) -> u8 {
+        match self {
+            Engine::Proved => call_proved(store, call, reply),
+            Engine::Ordinary(test) => call_ordinary(test, store, call, reply),
         }
     }
 }

@@ -1,38 +1,16 @@
-//! What is measured: the table that every kind of call meets, and the calls.
+//! What is measured: calls, and the states that they meet.
 
-use exchange::{Maker, CREATE, DELETE, GET, GET_ALL_ALARMS, RESET, SET, UPLOAD, UPLOAD_NEXT};
+use exchange::{Maker, DELETE, GET, RESET, SET, UPLOAD, UPLOAD_NEXT};
 
-use crate::engines::{Call, Slot};
-
-/// The product, by the number that power-on takes.
-pub const LARGE: u8 = 2;
-
-const BRIDGES: u16 = 12;
-const PORTS: u16 = 28;
+use crate::engines::{message, report, too_short, Call, Slot, ANSWERED, MESSAGE_LENGTH_DROP};
+use crate::states::{State, BRIDGE, BRIDGES, PORT, PORTS, UNI, UNIS};
 
 /// The sections of the full table: the UNIs have one each, so have profiles
 /// (class 45) and ports; configurations (class 46) have two.
-const SECTIONS: u16 = 4 + BRIDGES + 2 * BRIDGES + PORTS;
+const SECTIONS: u16 = UNIS + BRIDGES + 2 * BRIDGES + PORTS;
 
 /// How many calls of one sort are made in a row.
 const ROW: u16 = 64;
-
-const ANSWERED: u8 = 0;
-/// The drop of a message that isn't 48 bytes long.
-const MESSAGE_LENGTH_DROP: u8 = 3;
-
-// The instances that are asked for stand in the middle of the table.
-const BRIDGE: u16 = bridge(BRIDGES / 2);
-const PORT: u16 = port(PORTS / 2);
-const UNI: u16 = 0x0102;
-
-const fn bridge(index: u16) -> u16 {
-    0x0100 + 7 * index
-}
-
-const fn port(index: u16) -> u16 {
-    0x0200 + 5 * index
-}
 
 /// Calls that are measured together.
 pub struct Kind {
@@ -41,7 +19,9 @@ pub struct Kind {
     pub calls: Vec<Call>,
     /// How often the calls do what the name says.
     pub times: usize,
-    /// On how many stores the calls are made in turn, each with the full table.
+    /// The state that the calls meet, unless one before has changed it.
+    pub state: State,
+    /// On how many stores the calls are made in turn, each with the state.
     pub stores: usize,
     /// What each call returns.
     pub number: u8,
@@ -61,37 +41,28 @@ impl Kind {
     }
 }
 
-/// The calls that fill a fresh Large: 40 created instances, contents of all
-/// sorts, an alarm walk, and last an upload, so that a table is frozen.
-pub fn filling() -> Vec<Call> {
-    let mut maker = Maker::new(0x1000);
-    let mut calls = Vec::new();
-    for index in 0..BRIDGES {
-        calls.push(message(maker.bridge(bridge(index))));
-        let mac = [2, 0, 0, 0, 1, index as u8];
-        calls.push(report(46, bridge(index), 1, &mac));
-    }
-    for index in 0..PORTS {
-        calls.push(message(maker.port(port(index), bridge(index % BRIDGES))));
-    }
-    calls.push(message(maker.command(SET, 11, UNI, &[0x88, 0, 0x16, 1])));
-    calls.push(Call::Alarm { class_id: 11, instance: UNI, alarm: 0, on: true });
-    calls.push(message(maker.command(GET_ALL_ALARMS, 2, 0, &[])));
-    calls.push(message(maker.command(UPLOAD, 2, 0, &[])));
-    calls
-}
-
-/// The test of soundness comes first: every other call begins with it.
+/// The tests of soundness come first: every other call begins with one.
 pub fn all() -> Vec<Kind> {
-    vec![soundness(), upload(), get(), set(), attribute(), create_delete(), reset()]
+    vec![
+        soundness(
+            "soundness",
+            "the soundness test alone: a message of 47 bytes, drop 3",
+            State::Full,
+        ),
+        soundness("differs", "the same, each instance changed since it was frozen", State::Changed),
+        soundness("empty", "the same, a fresh Small, nothing frozen", State::Fresh),
+        upload(),
+        get(),
+        set(),
+        attribute(),
+        create_delete(),
+        reset(),
+    ]
 }
 
-/// A message that is too short is dropped right behind the test of soundness.
-fn soundness() -> Kind {
-    let mut maker = Maker::new(0x2000);
-    let calls = (0..ROW).map(|_| Call::Message(maker.command(CREATE, 45, 1, &[])[..47].to_vec()));
-    let what = "the soundness test alone: a message of 47 bytes, drop 3";
-    Kind { number: MESSAGE_LENGTH_DROP, ..row("soundness", what, calls.collect()) }
+fn soundness(name: &'static str, what: &'static str, state: State) -> Kind {
+    let calls = (0..ROW).map(|_| too_short()).collect();
+    Kind { number: MESSAGE_LENGTH_DROP, state, ..row(name, what, calls) }
 }
 
 fn upload() -> Kind {
@@ -143,13 +114,6 @@ fn reset() -> Kind {
 
 /// Calls on one store, each of which is the thing itself.
 fn row(name: &'static str, what: &'static str, calls: Vec<Call>) -> Kind {
-    Kind { name, what, times: calls.len(), calls, stores: 1, number: ANSWERED }
-}
-
-fn message(bytes: [u8; 48]) -> Call {
-    Call::Message(bytes.to_vec())
-}
-
-fn report(class_id: u16, instance: u16, attribute: u8, content: &[u8]) -> Call {
-    Call::Attribute { class_id, instance, attribute, content: content.to_vec() }
+    let times = calls.len();
+    Kind { name, what, calls, times, state: State::Full, stores: 1, number: ANSWERED }
 }

@@ -1,30 +1,37 @@
 //! Measures the proved engine against the ordinary one, with its soundness test
-//! and without it, on a full table. What each engine replies is compared in
-//! every run that is measured.
+//! and without it. What each engine replies is compared in every run that is
+//! measured.
 //!
 //! ```text
-//! speed                       ratios of times, a line for each kind of call
-//! speed --quick               every kind once, to compare the replies alone
-//! speed --stack               how deep the proved engine's functions go
-//! speed --kinds               the kinds: name, calls of a run, how often they do it, in words
-//! speed --count KIND ENGINE   one run behind a call of `counting_begins`
+//! speed                         ratios of times, a line for each kind of call
+//! speed --quick                 every kind once, to compare the replies alone
+//! speed --stack                 how deep the proved engine's functions go
+//! speed --kinds                 the kinds: name, how often a run does it, what it does behind the
+//!                               soundness test ('work' or 'nothing'), and in words
+//! speed --count KIND ENGINE     one run behind a call of `counting_begins`
+//! speed --count-tested KIND ENGINE
+//!                               the same with one more soundness test in front of each call
 //! ```
 
 mod engines;
 mod kinds;
 mod painted;
 mod rounds;
+mod states;
 mod subject;
 
 use std::collections::BTreeMap;
 use std::process::ExitCode;
 
 use engines::{Call, Engine};
-use kinds::{Kind, LARGE};
+use kinds::Kind;
+use painted::Depth;
 use rounds::{Effort, Ratio};
+use states::State;
 use subject::Subject;
 
-const USAGE: &str = "usage: speed [--quick | --stack | --kinds | --count KIND ENGINE]";
+const USAGE: &str =
+    "usage: speed [--quick | --stack | --kinds | --count KIND ENGINE | --count-tested KIND ENGINE]";
 
 const WHOLE: Effort = Effort { rounds: 101, turns: 12 };
 const QUICK: Effort = Effort { rounds: 1, turns: 1 };
@@ -37,7 +44,10 @@ fn main() -> ExitCode {
         ["--quick"] => rounds::measure(&kinds::all(), QUICK).map(|_| ()),
         ["--stack"] => stack(),
         ["--kinds"] => list(),
-        ["--count", kind, engine] => count(kind, engine),
+        ["--count", kind, engine] => count(kind, engine, |subject, kind| {
+            subject.run(kind);
+        }),
+        ["--count-tested", kind, engine] => count(kind, engine, Subject::run_tested),
         _ => Err(USAGE.into()),
     };
     match done {
@@ -71,18 +81,18 @@ fn stack() -> Result<(), String> {
     Ok(())
 }
 
-/// The deepest call of each exported function: power-on, what fills the table,
-/// and the calls of every kind on the full table.
+/// The deepest call of each exported function: power-on, what leads to each
+/// state, and there the calls of every kind that meets it.
 fn deepest() -> BTreeMap<&'static str, usize> {
-    let mut store = vec![0; Engine::Proved.store_size()];
-    let mut reply = [0; 48];
-    let mut depths = vec![painted::store_size(), painted::power_on(&mut store, LARGE)];
-    let mut make = |store: &mut [u8], calls: &[Call]| {
-        depths.extend(calls.iter().map(|call| painted::call(store, call, &mut reply)));
-    };
-    make(&mut store, &kinds::filling());
-    for kind in kinds::all() {
-        make(&mut store.clone(), &kind.calls);
+    let kinds = kinds::all();
+    let mut depths = vec![painted::store_size()];
+    for state in State::ALL {
+        let mut store = vec![0; Engine::Proved.store_size()];
+        depths.push(painted::power_on(&mut store, state.product()));
+        depths.extend(depths_of(&mut store, &state.calls()));
+        for kind in kinds.iter().filter(|kind| kind.state == state) {
+            depths.extend(depths_of(&mut store.clone(), &kind.calls));
+        }
     }
     let mut deepest = BTreeMap::new();
     for depth in depths {
@@ -92,14 +102,19 @@ fn deepest() -> BTreeMap<&'static str, usize> {
     deepest
 }
 
+fn depths_of(store: &mut [u8], calls: &[Call]) -> Vec<Depth> {
+    calls.iter().map(|call| painted::call(store, call, &mut [0; 48])).collect()
+}
+
 fn list() -> Result<(), String> {
     for kind in kinds::all() {
-        println!("{} {} {} {}", kind.name, kind.calls.len(), kind.times, kind.what);
+        let behind = if kind.does_work() { "work" } else { "nothing" };
+        println!("{} {} {behind} {}", kind.name, kind.times, kind.what);
     }
     Ok(())
 }
 
-fn count(kind: &str, engine: &str) -> Result<(), String> {
+fn count(kind: &str, engine: &str, run: fn(&mut Subject, &Kind)) -> Result<(), String> {
     let kinds = kinds::all();
     let kind: &Kind = kinds.iter().find(|one| one.name == kind).ok_or("no such kind")?;
     let engine =
@@ -107,7 +122,7 @@ fn count(kind: &str, engine: &str) -> Result<(), String> {
     let mut subject = Subject::new(engine)?;
     subject.prepare(kind);
     counting_begins();
-    subject.run(kind);
+    run(&mut subject, kind);
     subject.check_done(kind)
 }
 

@@ -1,43 +1,36 @@
-//! An engine with the full table.
+//! An engine and the stores that it is measured on.
 
 use std::time::{Duration, Instant};
 
-use crate::engines::{Engine, Slot};
-use crate::kinds::{filling, Kind, LARGE};
+use crate::engines::{Engine, Slot, ANSWERED};
+use crate::kinds::Kind;
+use crate::states::State;
 
 pub struct Subject {
     engine: Engine,
-    /// The store with the full table, from which every run begins.
-    full: Vec<u8>,
+    /// A store with each state, in the order of `State::ALL`. Every run begins
+    /// from one of them.
+    reached: Vec<Vec<u8>>,
     stores: Vec<Vec<u8>>,
     slots: Vec<Slot>,
 }
 
 impl Subject {
     pub fn new(engine: Engine) -> Result<Subject, String> {
-        let mut stores = vec![vec![0; engine.store_size()]];
-        if engine.power_on(&mut stores[0], LARGE) != 0 {
-            return Err(format!("{}: power-on was refused", engine.name()));
-        }
-        let calls = filling();
-        let mut slots = vec![Slot::CLEARED; calls.len()];
-        engine.run(&calls, &mut stores, &mut slots);
-        if !calls.iter().zip(&slots).all(|(call, slot)| call.is_done(slot)) {
-            return Err(format!("{}: the table couldn't be filled", engine.name()));
-        }
-        Ok(Subject { engine, full: stores.remove(0), stores, slots })
+        let reached: Result<_, String> =
+            State::ALL.into_iter().map(|state| reach(engine, state)).collect();
+        Ok(Subject { engine, reached: reached?, stores: Vec::new(), slots: Vec::new() })
     }
 
-    /// All engines, each with the full table.
     pub fn all() -> Result<Vec<Subject>, String> {
         Engine::ALL.into_iter().map(Subject::new).collect()
     }
 
-    /// Lays out full tables and cleared buffers for the calls of a kind.
+    /// Lays out stores and cleared buffers for the calls of a kind.
     pub fn prepare(&mut self, kind: &Kind) {
         self.stores.resize(kind.stores, Vec::new());
         for store in &mut self.stores {
-            store.clone_from(&self.full);
+            store.clone_from(&self.reached[kind.state as usize]);
         }
         self.slots.clear();
         self.slots.resize(kind.calls.len(), Slot::CLEARED);
@@ -48,6 +41,11 @@ impl Subject {
         let begin = Instant::now();
         self.engine.run(&kind.calls, &mut self.stores, &mut self.slots);
         begin.elapsed()
+    }
+
+    /// The same with one more test of soundness in front of each call.
+    pub fn run_tested(&mut self, kind: &Kind) {
+        self.engine.run_tested(&kind.calls, &mut self.stores, &mut self.slots);
     }
 
     /// Whether the run did what the kind means.
@@ -68,4 +66,19 @@ impl Subject {
             Err(format!("{}: {one} and {other} left different replies", kind.name))
         }
     }
+}
+
+/// A store with this state.
+fn reach(engine: Engine, state: State) -> Result<Vec<u8>, String> {
+    let mut stores = vec![vec![0; engine.store_size()]];
+    if engine.power_on(&mut stores[0], state.product()) != ANSWERED {
+        return Err(format!("{}: power-on was refused", engine.name()));
+    }
+    let calls = state.calls();
+    let mut slots = vec![Slot::CLEARED; calls.len()];
+    engine.run(&calls, &mut stores, &mut slots);
+    if !calls.iter().zip(&slots).all(|(call, slot)| call.is_done(slot)) {
+        return Err(format!("{}: a state couldn't be reached", engine.name()));
+    }
+    Ok(stores.remove(0))
 }
