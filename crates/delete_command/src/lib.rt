@@ -7,7 +7,7 @@ use store::layout::LIVE_END;
 use table::counter;
 ghost use mathlib.Core.Path.{_≡_};
 ghost use mathlib.Core.Bool.{true};
-ghost use Prim.Native.Nat.{_-_, _<_};
+ghost use Prim.Native.Nat.{_<_};
 ghost use lib.ListN.{replicate};
 ghost use Rattle.rules.specs.Bytes.{byte};
 ghost use Rattle.rules.specs.Catalogue.{is-created};
