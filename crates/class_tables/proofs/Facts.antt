@@ -84,9 +84,15 @@ module _ (pr : Product) (c : ℕ) where
   pub sections-fit : all (λ s. all (λ n. supported k n) s and leb (total (size-of k) s) 26) (sections-of k) ≡ true
   sections-fit = of-each (λ k. all (λ s. all (λ n. supported k n) s and leb (total (size-of k) s) 26) (sections-of k)) (unfold computing-tables in (refl, refl)) pr c
 
--- a few dozen at most
-pub few-classes : (pr : Product) → length (keys (cat-of pr .classes)) ≤ 64
-few-classes pr = leb-le (length (keys (cat-of pr .classes))) 64 (in-each (λ cat. leb (length (keys (cat .classes))) 64) (unfold computing-tables in refl) pr)
+-- ---- how many classes there are
+
+-- the code's bound, MOST_CLASSES
+pub few-classes : (pr : Product) → length (keys (cat-of pr .classes)) ≤ 5
+few-classes pr = leb-le (length (keys (cat-of pr .classes))) 5 (in-each (λ cat. leb (length (keys (cat .classes))) 5) (unfold computing-tables in refl) pr)
+
+-- no class has the number 0, which stands for none
+pub numbered-above-0 : (pr : Product) → all (λ c. ltb 0 c) (keys (cat-of pr .classes)) ≡ true
+numbered-above-0 pr = in-each (λ cat. all (λ c. ltb 0 c) (keys (cat .classes))) (unfold computing-tables in refl) pr
 
 -- ---- what concerns another class too
 

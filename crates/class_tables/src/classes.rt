@@ -7,7 +7,7 @@ use message_frame::numbers::GET;
 use message_frame::numbers::RESET;
 use message_frame::numbers::SET;
 ghost use mathlib.Core.Path.{_≡_};
-ghost use lib.ListN.{length, getD};
+ghost use lib.ListN.{getD};
 ghost use lib.Dec.{eqb};
 ghost use Rattle.rules.specs.Maps.{_and_, keys, among};
 ghost use Rattle.rules.specs.Catalogue.{ont-data, known, is-created, leader};
@@ -26,12 +26,8 @@ pub fn is_ont_data(class: u16, number: u16) -> bool
     (class == ONT_DATA) & (number == 0)
 }
 
-// How many classes the product has.
-pub fn class_count(product: Product) -> usize
-    ensures { λ r. ⌜ r ≡ length (keys (cat-of product .classes)) ⌝ }
-{
-    5
-}
+// No product has more classes.
+pub const MOST_CLASSES: usize = 5;
 
 // The j-th class of the product, in rising order; 0 past the last.
 pub fn class_at(product: Product, j: usize) -> u16

@@ -3,20 +3,22 @@ use Prim.Native.Nat.{ℕ, _+_, _*_, _-_, _/_, _%_, _≤_, _<_}
 use native.Mathlib.Nat.{mul-zero, mul-le-mul, mod-lt, div-lt-iff-lt-mul}
 use native.Mathlib.Omega.{arith}
 use mathlib.Core.Path.{_≡_, refl, sym, _∙_, ap}
+use mathlib.Core.Logic.{_≢_}
 use mathlib.Core.Option.{Option, none, some}
 use mathlib.Core.List.{List, []}
-use lib.ListN.{length, drop, getD, length-map}
+use lib.ListN.{length, drop, getD, length-map, List·getD-eq-default}
+use lib.Dec.{ltb}
 use Rattle.rules.specs.Maps.{given, nth, gather, keys, all, rising, _and_}
 use Rattle.rules.specs.Masks.{named, mask}
 use Rattle.rules.specs.Catalogue.{leader}
 use Rattle.rules.specs.Walks as rules
 use Rattle.rules.specs.Walks.{sections-of}
-use Rattle.rules.proofs.Laws.{both, same?}
+use Rattle.rules.proofs.Laws.{cases, both, same?, ltb-lt, ltb-le}
 use Rattle.rules.proofs.MapLaws.{length-gather}
 use Rattle.class_tables.specs.Built.{cat-of, class-for}
 use Rattle.table.specs.Places.{InShape, keys-in}
 use Rattle.upload_sections.specs.Sections.{numbers-in, instance-sections, class-sections, sections-in}
-use Rattle.class_tables.proofs.Facts.{few-sections, sections-in-order}
+use Rattle.class_tables.proofs.Facts.{few-sections, sections-in-order, numbered-above-0}
 use Rattle.upload_sections.proofs.EntryLaws.{all-keys, numbers-are, numbers-length, led-few, few-entries}
 use Rattle.upload_sections.proofs.Gathered.{nth-there, all-at, nth-gather, counted-more, within-this, past-this, past-all, gather-end}
 use Rattle.class_tables.specs.declared.Product.{Product}
@@ -93,6 +95,20 @@ module _ (pr : Product) (c : ℕ) where
 module _ (pr : Product) (b : List ℕ) where
   abbrev pub class-list : List ℕ
   class-list = keys (cat-of pr .classes)
+
+  -- 0 stands for none past the last class, and is no class's number
+  module _ (j : ℕ) {d : ℕ} (e : d ≡ getD class-list j 0) where
+    pub another-class : d ≢ 0 → j < length class-list
+    another-class there = cases (ltb j (length class-list))
+        (λ t. ltb-lt j (length class-list) t)
+        (λ t. absurd (there (e ∙ List·getD-eq-default class-list 0 (ltb-le j (length class-list) t))))
+
+    pub no-more-classes : d ≡ 0 → length class-list ≤ j
+    no-more-classes z = cases (ltb j (length class-list))
+        (λ t.
+        let above = ltb-lt 0 (getD class-list j 0) (all-at (λ c. ltb 0 c) 0 class-list j (numbered-above-0 pr) (ltb-lt j (length class-list) t)) in
+        absurd (omega arith))
+        (λ t. ltb-le j (length class-list) t)
 
   -- the sections of the classes from the j-th on
   abbrev pub sections-on : ℕ → List rules.Section

@@ -6,16 +6,17 @@ use Rattle.upload_sections.proofs.class_total.Tie as tie
 
 mul-result : tie.Need-mul-result
 mul-result c =
-    let a = c .before .before .before .args in
-    let z = class-few (a .product) (a .class) (a .b .now) (c .before .before .before .pre) in
-    let e = class-total-is (a .product) (a .class) (a .b .now) (c .before .instance-count .ensures) (c .section-count .ensures) in
+    let s = c .before .before in
+    let a = s .args in
+    let z = class-few (a .product) (a .class) (a .b .now) (s .pre .0) in
+    let e = class-total-is (a .product) (a .class) (a .b .now) (c .instance-count .ensures) (s .pre .1) in
     omega arith
 
 returns : tie.Need-returns
 returns c =
-    let a = c .before .before .before .args in
-    class-total-is (a .product) (a .class) (a .b .now) (c .before .instance-count .ensures) (c .section-count .ensures)
+    let s = c .before .before in
+    let a = s .args in
+    class-total-is (a .product) (a .class) (a .b .now) (c .instance-count .ensures) (s .pre .1)
 
 pub class-total-spec : {M : Type 1} → statement M
-class-total-spec =
-    tie.close (tie.spec (λ c κs. search needs) (λ c κs. search needs) mul-result returns)
+class-total-spec = tie.close (tie.spec (λ c κs. search needs) mul-result returns)
