@@ -442,9 +442,9 @@ module _ (products : Products) (fit : AllFit products) where
   unfolding power-on
   power-on-is-accepted p cat lent e h = rw (le-ltb (length lent) store-length h, e) refl
 
--- Of the products that are built: Small (1) and Large (2), powered on in any store of at least the store's length, meet drop 2 in no run.
-pub small-and-large-never-meet-drop-2 : (p : ℕ) (cat : Catalogue) (lent : List ℕ) (before : List Lent) (c : Call) (buffer : List ℕ)
+-- Of the products that are built, Small (1), Large (2) and Meter (3): powered on in any store of at least the store's length, they meet drop 2 in no run.
+pub the-built-products-never-meet-drop-2 : (p : ℕ) (cat : Catalogue) (lent : List ℕ) (before : List Lent) (c : Call) (buffer : List ℕ)
     → find p built-products ≡ some cat → store-length ≤ length lent → RunOfBytes before
     → enter built-products c (store-after built-products before (power-on built-products p lent .1)) buffer .outcome ≢ dropped 2
-small-and-large-never-meet-drop-2 p cat lent before c buffer e long b =
+the-built-products-never-meet-drop-2 p cat lent before c buffer e long b =
     a-run-from-power-on-never-meets-drop-2 built-products built-products-fit p lent before c buffer (power-on-is-accepted built-products built-products-fit p cat lent e long) b

@@ -1,6 +1,6 @@
 -- Demand 3 on bytes: two products in two stores, given the same calls in the same lent sizes.
 use Prim.Native.Nat.{ℕ, _≤_}
-use mathlib.Core.Path.{_≡_, refl}
+use mathlib.Core.Path.{_≡_}
 use mathlib.Core.Bool.{true}
 use mathlib.Core.Option.{some}
 use mathlib.Core.List.{List, [], _∷_, map}
@@ -11,14 +11,12 @@ use Rattle.rules.specs.State.{Table, State, read}
 use Rattle.rules.specs.Walks.{sections}
 use Rattle.rules.specs.WellFormed.{WellFormed}
 use Rattle.rules.specs.Run.{Input, store-length, step, fresh, run, after}
-use Rattle.rules.specs.Products.{Products, Small, Large, built-products}
+use Rattle.rules.specs.Products.{Products}
 use Rattle.rules.specs.Extends.{Extends}
 use Rattle.rules.proofs.MapLaws.{none-some}
-use Rattle.products.proofs.Extends.{large-extends-small}
 use Rattle.store.specs.Decode.{decode}
 use Rattle.store.specs.Entries.{power-on}
 use Rattle.store.specs.Fitting.{AllFit}
-use Rattle.store.proofs.Built.{built-products-fit}
 use Rattle.legality.proofs.LegalStates.{open-state}
 use Rattle.legality.proofs.Kept.{AllOfBytes, the-fresh-state-is-legal, every-run-keeps-the-state-legal}
 use Rattle.extending.specs.Promise.{within-the-promise, stands-in, SameUploads, SameRun, SameOutcomes}
@@ -49,29 +47,29 @@ nothing-asked-for first second t e = none-some e
 -- same calls in the same lent sizes, each report naming what the first then has, and the first answers every Create, Delete and Set with 0,
 -- 1 or 7. (That is assumed of the rules' run from the fresh state; by RunsOnBytes it is the run on the first's store.)
 module _ (products : Products) (fit : AllFit products) (p q : ℕ) (first second : Catalogue) (p-is : find p products ≡ some first) (q-is : find q products ≡ some second)
-    (ext : Extends first second) (a b : List ℕ) (a-long : store-length ≤ length a) (b-long : store-length ≤ length b)
-    (l : List Input) (bytes : AllOfBytes l) (promised : within-the-promise first (fresh first) l ≡ true) where
+    (ext : Extends first second) (l : List Input) (bytes : AllOfBytes l) (promised : within-the-promise first (fresh first) l ≡ true) where
   the-run : SameRun first second (fresh first) (fresh second) l
   the-run = an-extension-has-the-same-run first second (fit .well-formed p first p-is) (fit .well-formed q second q-is) ext l bytes promised
 
-  -- Of every call: the same drops; the same reply wherever the first's has a result and it is 0, 1 or 7; the same notifications and alarm walks.
-  pub the-second-store-answers-as-the-first : SameOutcomes l (outcomes products (power-on products p a .1) l) (outcomes products (power-on products q b .1) l)
-  the-second-store-answers-as-the-first = rw (
-    a-run-on-bytes-has-the-rules-outcomes products fit l bytes (power-on products p a .1) _ (a-powered-on-store-holds-the-fresh-state products fit p first a p-is a-long),
-    a-run-on-bytes-has-the-rules-outcomes products fit l bytes (power-on products q b .1) _ (a-powered-on-store-holds-the-fresh-state products fit q second b q-is b-long),
-  ) (outcomes-of-a-run first second (fresh first) (fresh second) l the-run)
+  module _ (a b : List ℕ) (a-long : store-length ≤ length a) (b-long : store-length ≤ length b) where
+    -- Of every call: the same drops; the same reply wherever the first's has a result and it is 0, 1 or 7; the same notifications and alarm walks.
+    pub the-second-store-answers-as-the-first : SameOutcomes l (outcomes products (power-on products p a .1) l) (outcomes products (power-on products q b .1) l)
+    the-second-store-answers-as-the-first = rw (
+      a-run-on-bytes-has-the-rules-outcomes products fit l bytes (power-on products p a .1) _ (a-powered-on-store-holds-the-fresh-state products fit p first a p-is a-long),
+      a-run-on-bytes-has-the-rules-outcomes products fit l bytes (power-on products q b .1) _ (a-powered-on-store-holds-the-fresh-state products fit q second b q-is b-long),
+    ) (outcomes-of-a-run first second (fresh first) (fresh second) l the-run)
 
-  -- The states that the two stores hold in the end: each attribute in the upload that the first was asked for last stands with the same content
-  -- in the second's. A run may end anywhere (what begins a run within the promise is within it), so this is said at every upload.
-  pub the-second-store-uploads-what-the-first-does :
-      (decode products (memory-after-all products (power-on products p a .1) l) ≡ some (record { product = p; catalogue = first; state = after first (fresh first) l }))
-      × (decode products (memory-after-all products (power-on products q b .1) l) ≡ some (record { product = q; catalogue = second; state = after second (fresh second) l }))
-      × SameUploads first second (after first (fresh first) l) (after second (fresh second) l)
-  the-second-store-uploads-what-the-first-does = (
-    a-run-on-bytes-leaves-the-rules-state products fit l bytes (power-on products p a .1) _ (a-powered-on-store-holds-the-fresh-state products fit p first a p-is a-long),
-    a-run-on-bytes-leaves-the-rules-state products fit l bytes (power-on products q b .1) _ (a-powered-on-store-holds-the-fresh-state products fit q second b q-is b-long),
-    uploads-of-a-run first second (fresh first) (fresh second) l (nothing-asked-for first second) the-run,
-  )
+    -- The states that the two stores hold in the end: each attribute in the upload that the first was asked for last stands with the same content
+    -- in the second's. A run may end anywhere (what begins a run within the promise is within it), so this is said at every upload.
+    pub the-second-store-uploads-what-the-first-does :
+        (decode products (memory-after-all products (power-on products p a .1) l) ≡ some (record { product = p; catalogue = first; state = after first (fresh first) l }))
+        × (decode products (memory-after-all products (power-on products q b .1) l) ≡ some (record { product = q; catalogue = second; state = after second (fresh second) l }))
+        × SameUploads first second (after first (fresh first) l) (after second (fresh second) l)
+    the-second-store-uploads-what-the-first-does = (
+      a-run-on-bytes-leaves-the-rules-state products fit l bytes (power-on products p a .1) _ (a-powered-on-store-holds-the-fresh-state products fit p first a p-is a-long),
+      a-run-on-bytes-leaves-the-rules-state products fit l bytes (power-on products q b .1) _ (a-powered-on-store-holds-the-fresh-state products fit q second b q-is b-long),
+      uploads-of-a-run first second (fresh first) (fresh second) l (nothing-asked-for first second) the-run,
+    )
 
   -- And it is sent: for each attribute in the first's upload some Next of the second's, below its count, shows a section that names it, and its
   -- content there is the first's.
@@ -85,27 +83,3 @@ module _ (products : Products) (fit : AllFit products) (p q : ℕ) (first second
     where
       wf′ : WellFormed second
       wf′ = fit .well-formed q second q-is
-
--- ---- Small and Large
-
-small-is-1 : find 1 built-products ≡ some Small
-unfolding built-products find
-small-is-1 = refl
-
-large-is-2 : find 2 built-products ≡ some Large
-unfolding built-products find
-large-is-2 = refl
-
-pub large-answers-as-small : (a b : List ℕ) → store-length ≤ length a → store-length ≤ length b → (l : List Input) → AllOfBytes l
-    → within-the-promise Small (fresh Small) l ≡ true
-    → SameOutcomes l (outcomes built-products (power-on built-products 1 a .1) l) (outcomes built-products (power-on built-products 2 b .1) l)
-large-answers-as-small = the-second-store-answers-as-the-first built-products built-products-fit 1 2 Small Large small-is-1 large-is-2 large-extends-small
-
-pub large-uploads-what-small-does : (a b : List ℕ) → store-length ≤ length a → store-length ≤ length b → (l : List Input) → AllOfBytes l
-    → within-the-promise Small (fresh Small) l ≡ true
-    → (decode built-products (memory-after-all built-products (power-on built-products 1 a .1) l)
-    ≡ some (record { product = 1; catalogue = Small; state = after Small (fresh Small) l }))
-    × (decode built-products (memory-after-all built-products (power-on built-products 2 b .1) l)
-    ≡ some (record { product = 2; catalogue = Large; state = after Large (fresh Large) l }))
-    × SameUploads Small Large (after Small (fresh Small) l) (after Large (fresh Large) l)
-large-uploads-what-small-does = the-second-store-uploads-what-the-first-does built-products built-products-fit 1 2 Small Large small-is-1 large-is-2 large-extends-small

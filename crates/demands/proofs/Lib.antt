@@ -14,5 +14,8 @@ pub mod Worthless
 pub mod RunsOnBytes
 pub mod Fetched
 pub mod DemandThree
+pub mod ProductPairs
 pub mod DemandThreeExample
 pub mod GrownExample
+pub mod MeterExample
+pub mod OnlyRead

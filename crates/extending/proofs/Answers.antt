@@ -82,7 +82,7 @@ module _ (first second : Catalogue) (wf : WellFormed first) (wf′ : WellFormed 
       → is-0-1-or-7 (byte (for-its-class first n c s a .1) 0) ≡ true → Same first second (for-its-class first n c s a) (for-its-class second n c z b)
   same-in-its-class n c s z a b f h = in-its-class first n c s a (λ k m r.
       let m′ : among n (class second c .commands) ≡ true =
-      all-among (λ j. among j (class second c .commands)) (class first c .commands) (class-extends first second wf wf′ ext c k .commands-kept) n m in
+      all-among (λ j. among j (class second c .commands)) (class first c .commands) (class-extends first second wf wf′ ext c k .commands-grow) n m in
       rw (taken-in-its-class first n c s a k m, taken-in-its-class second n c z b (known-too first second wf wf′ ext c k) m′) (f k m r)) h
 
   module _ (s z : State) (h : LegalState first wf s) (h′ : LegalState second wf′ z) (m : MatchedState first second s z)

@@ -244,8 +244,9 @@ module _ (first second third : Catalogue) (wf : WellFormed first) (wf′ : WellF
     class-composes : ClassExtends first third k m
     class-composes = record {
       same-creation = creation-composes (k .creation) (l .creation) (m .creation) (kept .same-creation) (kept′ .same-creation);
-      commands-kept = all-imp (λ n. among n (l .commands)) (λ n. among n (m .commands)) (all-among (λ n. among n (m .commands)) (l .commands) (kept′ .commands-kept)) (k .commands)
-          (kept .commands-kept);
+      commands-grow = all-imp (λ n. among n (l .commands)) (λ n. among n (m .commands)) (all-among (λ n. among n (m .commands)) (l .commands) (kept′ .commands-grow)) (k .commands)
+          (kept .commands-grow);
+      delete-goes-with-create = (kept .delete-goes-with-create .0, kept′ .delete-goes-with-create .1);
       same-alarms = λ n. kept .same-alarms n ∙ kept′ .same-alarms n;
       attributes-kept = attributes-compose;
       creates-carry-equally = kept .creates-carry-equally ∙ kept′ .creates-carry-equally;

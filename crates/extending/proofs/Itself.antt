@@ -6,10 +6,10 @@ use mathlib.Core.List.{List, [], _∷_, _++_, append-nil}
 use Rattle.rules.specs.Maps.{among, all, those}
 use Rattle.rules.specs.Catalogue.{Attribute, Creation, created, automatic, comes-with, Class, Catalogue, class, known, attribute, supported, carried-numbers, is-fixed}
 use Rattle.rules.specs.Legal.{passes}
-use Rattle.rules.specs.WellFormed.{WellFormed}
+use Rattle.rules.specs.WellFormed.{delete-where-create, WellFormed}
 use Rattle.rules.specs.Extends.{Agree, AttributeExtends, SameCreation, added-carried, ClassExtends, Extends}
 use Rattle.rules.proofs.Laws.{cases, never, not-true, both}
-use Rattle.rules.proofs.Lookups.{C-supported}
+use Rattle.rules.proofs.Lookups.{class-says, C-supported}
 use Rattle.rules.proofs.Verdicts.{passes-later}
 use Rattle.rules.proofs.Standing.{all-imp, all-self}
 use Rattle.legality.proofs.Carried.{carried-is-C}
@@ -57,9 +57,11 @@ module _ (cat : Catalogue) (wf : WellFormed cat) (c : ℕ) (kn : known cat c ≡
   unfolding among
   class-extends-itself =
       let k : Class = class cat c in
+      let deletes : delete-where-create k ≡ true = class-says (λ c k. delete-where-create k) cat (wf .delete-goes-with-create) c kn in
       record {
         same-creation = same-creation-as-itself (k .creation);
-        commands-kept = all-self (k .commands);
+        commands-grow = all-self (k .commands);
+        delete-goes-with-create = (deletes, deletes);
         same-alarms = λ n. refl;
         attributes-kept = λ n sup. (sup, attribute-extends-itself cat k (attribute k n));
         creates-carry-equally = refl;

@@ -11,10 +11,10 @@ use Rattle.rules.specs.Maps.{_and_, _or_, Map, among}
 use Rattle.rules.specs.Bytes.{number, are-bytes}
 use Rattle.rules.specs.Catalogue.{fine, bad, Rule, of-creator, Attribute, created, automatic, comes-with, Class, Catalogue, class, known, attribute, supported, size-of, key}
 use Rattle.rules.specs.Legal.{passes, there-or-gone}
-use Rattle.rules.specs.Messages.{create-number, delete-number, set-number, get-number}
+use Rattle.rules.specs.Messages.{set-number, get-number}
 use Rattle.rules.specs.WellFormed.{WellFormed}
 use Rattle.rules.specs.Extends.{Allows, Agree, AttributeExtends, ClassExtends, Extends, computing-extends}
-use Rattle.rules.specs.Products.{any, from_to_, one-of, an-existing, with-rights, RW, RL, RC, RWC, R, with-AVC, ont-data-class}
+use Rattle.rules.specs.Products.{any, from_to_, one-of, an-existing, with-rights, RW, RL, RC, RWC, R, with-AVC, ont-data-class, for-created}
 use Rattle.rules.proofs.Laws.{_&_, never, both, and-true, or-cases, eqb-eq, leb-le, le-leb, each-among}
 use Rattle.rules.proofs.MapLaws.{Each, each-find}
 use Rattle.rules.proofs.Lookups.{known-attribute}
@@ -39,9 +39,6 @@ socket-class commands numbers writable more = record {
   attributes = (1, with-rights writable false false 1 any) ∷ (2, with-AVC (RL 1 (from 0 to 1))) ∷ more;
   unkept = [];
 }
-
-abbrev for-created : List ℕ
-for-created = create-number ∷ delete-number ∷ set-number ∷ get-number ∷ []
 
 -- timers are created: mode, the socket they switch, day and hour; then come three bytes that the first doesn't keep
 unfoldable pub timer-class : Map Attribute → Map ℕ → Class
@@ -127,11 +124,11 @@ grown-plain =
 
 pub young-is-well-formed : WellFormed Young
 unfolding testing computing-grown
-young-is-well-formed = well-formed Young (key 60 1) (key 60 2) refl young-plain refl refl refl
+young-is-well-formed = well-formed Young (key 60 1) (key 60 2) (refl, refl, refl) young-plain refl refl refl
 
 pub grown-is-well-formed : WellFormed Grown
 unfolding testing computing-grown
-grown-is-well-formed = well-formed Grown (key 60 1) (key 60 3) refl grown-plain refl refl refl
+grown-is-well-formed = well-formed Grown (key 60 1) (key 60 3) (refl, refl, refl) grown-plain refl refl refl
 
 -- ---- the second extends the first
 
@@ -208,7 +205,7 @@ listed-sockets k l v f g sized bytes agree there there′ more always led p = rw
 
 two-extends : ClassExtends Young Grown (class Young 2) (class Grown 2)
 unfolding extending-grown
-two-extends = class-extends Young Grown (class Young 2) (class Grown 2) [] refl ((λ v f g h. refl) & tt) refl refl refl refl refl tt
+two-extends = class-extends Young Grown (class Young 2) (class Grown 2) ((refl, λ v f g h. refl) & tt) refl refl (refl, refl) refl refl refl tt
 
 -- a command, an instance and an attribute more, and the level becomes W
 socket-extends : ClassExtends Young Grown (class Young 60) (class Grown 60)
@@ -218,7 +215,8 @@ socket-extends =
     let l : Class = class Grown 60 in
     record {
       same-creation = refl;
-      commands-kept = refl;
+      commands-grow = refl;
+      delete-goes-with-create = (refl, refl);
       same-alarms = λ n. refl;
       attributes-kept = each-kept k l
           ((refl, grown-attribute k l false true false 1 any any (λ t. refl) (now-anything k l 1 any))
@@ -250,7 +248,8 @@ timer-extends =
     let l : Class = grown-timer in
     record {
       same-creation = tt;
-      commands-kept = refl;
+      commands-grow = refl;
+      delete-goes-with-create = (refl, refl);
       same-alarms = λ n. refl;
       attributes-kept = each-kept k l
           ((refl, grown-attribute k l true true true 1 (from 0 to 3) (from 0 to 7) (λ t. t) (more-modes k l))
@@ -270,7 +269,8 @@ link-extends =
     let l : Class = class Grown 80 in
     record {
       same-creation = tt;
-      commands-kept = refl;
+      commands-grow = refl;
+      delete-goes-with-create = (refl, refl);
       same-alarms = λ n. refl;
       attributes-kept = each-kept k l
           ((refl, grown-attribute k l false false true 2 (an-existing 70) (an-existing 71) (λ t. t) (its-display k l))

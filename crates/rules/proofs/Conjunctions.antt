@@ -15,6 +15,9 @@ join-assoc a b c = cases a (λ e. rw e) (λ e. rw e)
 pub join-end : (a : Bool) → (a && true) ≡ a
 join-end a = cases a (λ e. rw e) (λ e. rw e)
 
+pub join-never : (a : Bool) → (a && false) ≡ false
+join-never a = cases a (λ e. rw e) (λ e. rw e)
+
 pub and-end : (a : Bool) → (a and true) ≡ a
 unfolding _and_
 and-end a = cases a (λ e. rw e) (λ e. rw e)

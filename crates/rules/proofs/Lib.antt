@@ -11,3 +11,4 @@ pub mod Verdicts
 pub mod Examples
 pub mod Limits
 pub mod Traps
+pub mod MeterExamples

@@ -12,7 +12,7 @@ use Rattle.rules.specs.Catalogue.{attribute, supported, size-of, carried
 use Rattle.rules.specs.State.{State, holds}
 use Rattle.rules.specs.Legal.{passes, there-or-gone}
 use Rattle.rules.specs.Run.{Call, message, attribute-report, alarm-report}
-use Rattle.rules.specs.WellFormed.{carried-bytes}
+use Rattle.rules.specs.WellFormed.{carried-bytes, delete-where-create}
 
 -- ---- legal contents may only grow
 
@@ -69,7 +69,9 @@ added-carried k l = those (λ n. not (supported k n)) (carried-numbers l)
 
 pub record ClassExtends (first second : Catalogue) (k l : Class) : Type 0 where
   pub same-creation : SameCreation (k .creation) (l .creation)
-  pub commands-kept : all (λ n. among n (l .commands)) (k .commands) ≡ true
+  -- the commands allowed for a class may only grow, Delete being allowed where Create is and nowhere else
+  pub commands-grow : all (λ n. among n (l .commands)) (k .commands) ≡ true
+  pub delete-goes-with-create : (delete-where-create k ≡ true) × (delete-where-create l ≡ true)
   pub same-alarms : (n : ℕ) → among n (k .alarms) ≡ among n (l .alarms)
   pub attributes-kept : (n : ℕ) → supported k n ≡ true → (supported l n ≡ true) × AttributeExtends first second k l (attribute k n) (attribute l n)
   -- Creates carry equally many bytes

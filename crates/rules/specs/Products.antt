@@ -1,10 +1,10 @@
--- The two catalogues of document 01, Small and Large.
+-- The catalogues: Small and Large of document 01, and Meter of document 02's ticket 10.
 use Prim.Native.Nat.{ℕ}
-use mathlib.Core.Bool.{Bool, true, false, cond}
+use mathlib.Core.Bool.{Bool, true, false, not, cond}
 use mathlib.Core.List.{List, [], _∷_}
 use lib.ListN.{replicate}
 use lib.Dec.{eqb, leb}
-use Rattle.rules.specs.Maps.{_and_, Map, among}
+use Rattle.rules.specs.Maps.{_and_, Map, keep, among, those}
 use Rattle.rules.specs.Bytes.{number}
 use Rattle.rules.specs.Catalogue.{fine, bad, asks, Rule, constant, copied, Source, stored, of-creator, count-of, Attribute, created}
 use Rattle.rules.specs.Catalogue.{automatic, comes-with, Class, Catalogue}
@@ -107,11 +107,15 @@ uni-more =
     ∷ (13, RW 1 any)
     ∷ []
 
+-- the commands of a class that can be created
+abbrev pub for-created : List ℕ
+for-created = create-number ∷ delete-number ∷ set-number ∷ get-number ∷ []
+
 -- ---- 45 bridge service profile
 
 unfoldable pub profile-class : Class
 profile-class = record {
-  commands = create-number ∷ delete-number ∷ set-number ∷ get-number ∷ [];
+  commands = for-created;
   creation = created;
   alarms = [];
   attributes =
@@ -157,7 +161,7 @@ bridge-more =
 
 unfoldable pub port-class : Map Attribute → Map ℕ → Class
 port-class more not-kept = record {
-  commands = create-number ∷ delete-number ∷ set-number ∷ get-number ∷ [];
+  commands = for-created;
   creation = created;
   alarms = [];
   attributes =
@@ -204,14 +208,49 @@ Large = record {
       ∷ [];
 }
 
+-- ---- what Meter leaves out of Small's classes
+
+-- these attributes of a class alone, under their numbers, with their sizes, rights and rules
+unfoldable pub only-attributes : List ℕ → Class → Class
+only-attributes numbers k = record {
+  commands = k .commands;
+  creation = k .creation;
+  alarms = k .alarms;
+  attributes = keep (λ n a. among n numbers) (k .attributes);
+  unkept = k .unkept;
+}
+
+-- a class without the commands Create, Delete and Set
+unfoldable pub no-create-delete-or-set : Class → Class
+no-create-delete-or-set k = record {
+  commands = those (λ n. not (among n (create-number ∷ delete-number ∷ set-number ∷ []))) (k .commands);
+  creation = k .creation;
+  alarms = k .alarms;
+  attributes = k .attributes;
+  unkept = k .unkept;
+}
+
+-- the ONT data, and one UNI with expected type, sensed type, admin state and operational state
+unfoldable pub Meter : Catalogue
+Meter = record {
+  places = 40;
+  classes =
+      (2, no-create-delete-or-set ont-data-class)
+      ∷ (11, no-create-delete-or-set (only-attributes (1 ∷ 2 ∷ 5 ∷ 6 ∷ []) (uni-class (0x0101 ∷ []) [])))
+      ∷ [];
+}
+
+-- ----
+
 -- the products by their numbers
 abbrev pub Products : Type 0
 Products = Map Catalogue
 
 unfoldable pub built-products : Products
-built-products = (1, Small) ∷ (2, Large) ∷ []
+built-products = (1, Small) ∷ (2, Large) ∷ (3, Meter) ∷ []
 
 unfoldable pub computing-products : ℕ
 unfolding any from_to_ one-of an-existing existing-where with-rights RW RL RC RWC from-source first first-copied-from R with-AVC
-    ont-data-class uni-class uni-more profile-class bridge-class bridge-more port-class port-more Small Large built-products
+    ont-data-class uni-class uni-more profile-class bridge-class bridge-more port-class port-more Small Large
+    only-attributes no-create-delete-or-set Meter built-products
 computing-products = 0

@@ -118,6 +118,13 @@ C-only-if-created c k n a = implies (a .C) (is-created (k .creation))
 unfoldable pub created-by-Create : ℕ → Class → Bool
 created-by-Create c k = implies (among create-number (k .commands) or among delete-number (k .commands)) (is-created (k .creation))
 
+-- Delete is allowed where Create is, and nowhere else (document 02, ticket 10)
+unfoldable pub delete-where-create : Class → Bool
+delete-where-create k =
+    let creates : Bool = among create-number (k .commands) in
+    let deletes : Bool = among delete-number (k .commands) in
+    implies creates deletes and implies deletes creates
+
 -- ---- conditions that speak of every content
 
 -- first contents are legal: the constant ones; and the copied ones, wherever the Create was accepted
@@ -179,9 +186,11 @@ pub record WellFormed (cat : Catalogue) : Type 0 where
   pub unkept-bits : every-class unkept-has-its-own-bit cat
   pub C-if-created : every-attribute C-only-if-created cat
   pub create-if-created : every-class created-by-Create cat
+  pub delete-goes-with-create : every-class (λ c k. delete-where-create k) cat
 
 unfoldable pub computing-well-formed : ℕ
 unfolding implies numbered-1-to-16 of-1-to-25-bytes rights-only-if-stored never-W-and-L no-automatic-if-created unkept-bytes carried-bytes
     carries-at-most-32 reset-of-class-2-only readable-from read-in-one-of-two-ways comes-with-a-created-one class-number-in-two-bytes
     attributes-rise automatic-numbers-rise alarms-in-a-bitmap unkept-has-its-own-bit C-only-if-created created-by-Create
+    delete-where-create
 computing-well-formed = 0

@@ -2,8 +2,8 @@
 use native.Mathlib.Omega.{arith}
 use mathlib.Core.Path.{_≡_, refl}
 use mathlib.Core.Bool.{true}
-use Rattle.rules.specs.Products.{Small, Large, built-products}
-use Rattle.products.proofs.WellFormed.{small-is-well-formed, large-is-well-formed}
+use Rattle.rules.specs.Products.{Small, Large, Meter, built-products}
+use Rattle.products.proofs.WellFormed.{small-is-well-formed, large-is-well-formed, meter-is-well-formed}
 use Rattle.store.specs.Layout.{fits}
 use Rattle.store.specs.Fitting.{AllFit}
 use Rattle.store.specs.Entries.{computing-store}
@@ -17,9 +17,13 @@ large-fits : fits Large ≡ true
 unfolding computing-store
 large-fits = refl
 
+meter-fits : fits Meter ≡ true
+unfolding computing-store
+meter-fits = refl
+
 pub built-products-fit : AllFit built-products
 unfolding built-products
 built-products-fit = all-fit built-products (
   (omega arith, small-is-well-formed, small-fits),
-  ((omega arith, large-is-well-formed, large-fits), tt),
+  ((omega arith, large-is-well-formed, large-fits), ((omega arith, meter-is-well-formed, meter-fits), tt)),
 )

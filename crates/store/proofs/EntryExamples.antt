@@ -9,7 +9,7 @@ use Rattle.rules.specs.Maps.{gather}
 use Rattle.rules.specs.Bytes.{fill, laid}
 use Rattle.rules.specs.Reports.{dropped, quiet, answered}
 use Rattle.rules.specs.Run.{Call, message, attribute-report, alarm-report, fresh, after}
-use Rattle.rules.specs.Products.{Small, Large, built-products}
+use Rattle.rules.specs.Products.{Small, Large, Meter, built-products}
 use Rattle.rules.proofs.Examples.{call, good-bridge, computing}
 use Rattle.store.specs.Layout.{encode}
 use Rattle.store.specs.Entries.{Left, enter, power-on, computing-store}
@@ -31,6 +31,10 @@ large-uni = replicate 7 0 ++ 0x05 ∷ 0xEE ∷ 0 ∷ 0 ∷ 0 ∷ 2 ∷ 0 ∷ 0 �
 unfoldable pub large-store : List ℕ
 large-store = 2 ∷ replicate 101 0 ++ large-uni ++ large-uni ++ large-uni ++ large-uni ++ replicate 3182 0 ++ behind
 
+-- a fresh Meter: product 3, and zeros
+unfoldable pub meter-store : List ℕ
+meter-store = 3 ∷ replicate 3343 0 ++ behind
+
 -- a buffer of so many bytes
 unfoldable pub room : ℕ → List ℕ
 room n = replicate n 0x55
@@ -39,7 +43,7 @@ unfoldable pub on : Call → List ℕ → List ℕ → Left
 on c store buffer = enter built-products c store buffer
 
 unfoldable pub computing-entries : ℕ
-unfolding computing computing-store small-store large-uni large-store room on
+unfolding computing computing-store small-store large-uni large-store meter-store room on
 computing-entries = 0
 
 -- ---- power-on
@@ -52,14 +56,20 @@ pub power-on-of-large : power-on built-products 2 (replicate 3344 0x77 ++ behind
 unfolding computing-entries
 power-on-of-large = refl
 
-pub power-on-writes-the-fresh-state : (encode 1 Small (fresh Small) ++ behind) ∷ (encode 2 Large (fresh Large) ++ behind) ∷ [] ≡ small-store ∷ large-store ∷ []
+pub power-on-of-meter : power-on built-products 3 (replicate 3344 0x77 ++ behind) ≡ (none, meter-store)
+unfolding computing-entries
+power-on-of-meter = refl
+
+pub power-on-writes-the-fresh-state :
+    (encode 1 Small (fresh Small) ++ behind) ∷ (encode 2 Large (fresh Large) ++ behind) ∷ (encode 3 Meter (fresh Meter) ++ behind) ∷ [] ≡ small-store ∷ large-store ∷ meter-store ∷ []
 unfolding computing-entries
 power-on-writes-the-fresh-state = refl
 
--- a byte short; the same with a product that there isn't, as the length is tried first; products 0 and 255
+-- a byte short; the same with a product that there isn't, as the length is tried first; products 0, 4 and 255
 pub power-on-drops-2-and-12 :
-    map (λ (e : ℕ × List ℕ). power-on built-products (e .0) (e .1)) ((1, replicate 3343 0x77) ∷ (0, replicate 3343 0x77) ∷ (0, replicate 3344 0x77) ∷ (255, replicate 3347 0x77) ∷ [])
-    ≡ (some 2, replicate 3343 0x77) ∷ (some 2, replicate 3343 0x77) ∷ (some 12, replicate 3344 0x77) ∷ (some 12, replicate 3347 0x77) ∷ []
+    map (λ (e : ℕ × List ℕ). power-on built-products (e .0) (e .1))
+    ((1, replicate 3343 0x77) ∷ (0, replicate 3343 0x77) ∷ (0, replicate 3344 0x77) ∷ (4, replicate 3344 0x77) ∷ (255, replicate 3347 0x77) ∷ [])
+    ≡ (some 2, replicate 3343 0x77) ∷ (some 2, replicate 3343 0x77) ∷ (some 12, replicate 3344 0x77) ∷ (some 12, replicate 3344 0x77) ∷ (some 12, replicate 3347 0x77) ∷ []
 unfolding computing-entries
 power-on-drops-2-and-12 = refl
 
