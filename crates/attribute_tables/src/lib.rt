@@ -8,8 +8,8 @@ use class_tables::Rule;
 use class_tables::Way;
 ghost use mathlib.Core.Path.{_≡_};
 ghost use Rattle.class_tables.specs.Meaning.{line, kept-line, carried-line, absent-line, with-avc, judged-if};
-ghost use Rattle.class_tables.specs.Lines.{ont-data-lines, uni-lines, large-uni-lines, profile-lines, bridge-lines, large-bridge-lines, port-lines, large-port-lines};
-ghost use Rattle.class_tables.specs.Lines.{small-lines, large-lines, lines-in, line-in};
+ghost use Rattle.class_tables.specs.Lines.{ont-data-lines, uni-lines, large-uni-lines, meter-uni-lines, profile-lines, bridge-lines, large-bridge-lines, port-lines};
+ghost use Rattle.class_tables.specs.Lines.{large-port-lines, small-lines, large-lines, meter-lines, lines-in, line-in};
 ghost use Rattle.class_tables.specs.Describes.{Describes};
 
 // A line: no report of it sends a notification, and its content is always judged.
@@ -107,6 +107,20 @@ fn large_uni(number: u16) -> Attribute
         12 => kept(1, 13, Rights::W, 0, Rule::Range(0, 1)),
         13 => kept(1, 14, Rights::W, 0, Rule::Any),
         _ => uni(number),
+    }
+}
+
+// 11 Ethernet UNI, as far as Meter has it
+fn meter_uni(number: u16) -> Attribute
+    ensures { λ r. ⌜ r ≡ line-in meter-uni-lines number ⌝ }
+{
+    match number {
+        // expected type, sensed type, admin state, operational state
+        1 => kept(1, 0, Rights::W, 0, Rule::Any),
+        2 => notified(kept(1, 1, Rights::L, 0, Rule::Any)),
+        5 => kept(1, 2, Rights::W, 0, Rule::Range(0, 1)),
+        6 => notified(kept(1, 3, Rights::L, 0, Rule::Range(0, 1))),
+        _ => absent(),
     }
 }
 
@@ -212,6 +226,17 @@ fn large(class: u16, number: u16) -> Attribute
     }
 }
 
+// The classes of Meter.
+fn meter(class: u16, number: u16) -> Attribute
+    ensures { λ r. ⌜ r ≡ line-in (lines-in meter-lines class) number ⌝ }
+{
+    match class {
+        2 => ont_data(number),
+        11 => meter_uni(number),
+        _ => absent(),
+    }
+}
+
 // An attribute of a class; a line of size 0 for what the product doesn't have.
 pub fn attribute_of(product: Product, class: u16, number: u16) -> Attribute
     ensures { λ r. ⌜ Describes product class number r ⌝ }
@@ -219,5 +244,6 @@ pub fn attribute_of(product: Product, class: u16, number: u16) -> Attribute
     match product {
         Product::Small => small(class, number),
         Product::Large => large(class, number),
+        Product::Meter => meter(class, number),
     }
 }

@@ -16,12 +16,13 @@ use Rattle.rules.proofs.Families.{unknown-family, in-family, family-by-numbers,
 use Rattle.store.specs.Layout.{place-count, place-width, contents-width}
 use Rattle.store.specs.Positions.{before, inside}
 use Rattle.class_tables.specs.declared.Product.{Product}
-use Rattle.class_tables.specs.Built.{cat-of, class-for}
+use Rattle.class_tables.specs.declared.Product.the-variants as built
+use Rattle.class_tables.specs.Built.{cat-of, class-for, by-product}
 use Rattle.class_tables.specs.Describes.{offset-of}
 use Rattle.class_tables.specs.Families.{Companion}
 use Rattle.class_tables.specs.Computing.{computing-tables}
 use Rattle.class_tables.proofs.Matches.{Avoids, not-there}
-use Rattle.class_tables.proofs.EveryProduct.{well-formed-of, Passed, in-each, same-number, Each, elsewhere, of-known, of-each, empty-none}
+use Rattle.class_tables.proofs.EveryProduct.{well-formed-of, in-its-product, Passed, in-each, same-number, Each, elsewhere, of-known, of-each, empty-none}
 use Rattle.rules.proofs.MapLaws.{Up, rising-up}
 
 -- ---- which there are
@@ -29,6 +30,11 @@ use Rattle.rules.proofs.MapLaws.{Up, rising-up}
 -- the class at one of these places, and none past the last
 pub class-there : (i : ℕ) {j x : ℕ} (pr : Product) → j ≡ i → Passed (λ cat. eqb x (getD (keys (cat .classes)) i 0)) → x ≡ getD (keys (cat-of pr .classes)) j 0
 class-there i pr e h = rw e (same-number (λ cat. getD (keys (cat .classes)) i 0) h pr)
+
+pub class-by-product : (i : ℕ) {j x small large meter : ℕ} (pr : Product) → j ≡ i → x ≡ by-product pr small large meter
+    → (small ≡ getD (keys (cat-of built.Small .classes)) i 0) × (large ≡ getD (keys (cat-of built.Large .classes)) i 0) × (meter ≡ getD (keys (cat-of built.Meter .classes)) i 0)
+    → x ≡ getD (keys (cat-of pr .classes)) j 0
+class-by-product i pr e g h = rw e (in-its-product (λ pr x. x ≡ getD (keys (cat-of pr .classes)) i 0) pr g h)
 
 pub no-class-there : (n : ℕ) (pr : Product) (j : ℕ) → n ≤ j → Passed (λ cat. leb (length (keys (cat .classes))) n) → 0 ≡ getD (keys (cat-of pr .classes)) j 0
 no-class-there n pr j h g =

@@ -1,7 +1,7 @@
 -- What holds of every built product: one test that is computed over all of them, and what it says of the product at hand.
 use Prim.Native.Nat.{ℕ, _<_}
 use native.Mathlib.Omega.{arith}
-use mathlib.Core.Path.{_≡_, refl, sym, _∙_, ap}
+use mathlib.Core.Path.{_≡_, refl, sym, ap, subst}
 use mathlib.Core.Bool.{Bool, true, false, not}
 use mathlib.Core.Option.{none, some}
 use mathlib.Core.List.{List, [], _∷_}
@@ -32,6 +32,7 @@ pub product-found : (pr : Product) → find (product-of pr) built-products ≡ s
 unfolding find built-products cat-of
 product-found built.Small = refl
 product-found built.Large = refl
+product-found built.Meter = refl
 
 pub well-formed-of : (pr : Product) → WellFormed (cat-of pr)
 well-formed-of pr = built-products-fit .well-formed (product-of pr) (cat-of pr) (product-found pr)
@@ -54,6 +55,13 @@ names-nothing listed n a h = record {
   where
     nothing-named : {pr : Product} → Nothing ≡ Is pr → ⊥
     nothing-named e = let z : _≡_ {A = ℕ} 0 1 = cc in omega arith
+
+-- what is chosen by product is right if each choice is
+pub in-its-product : {A : Type 0} (P : Product → A → Type 0) {x small large meter : A} (pr : Product) → x ≡ by-product pr small large meter
+    → P built.Small small × P built.Large large × P built.Meter meter → P pr x
+in-its-product P built.Small e h = subst (P built.Small) (sym e) (h .0)
+in-its-product P built.Large e h = subst (P built.Large) (sym e) (h .1)
+in-its-product P built.Meter e h = subst (P built.Meter) (sym e) (h .2)
 
 -- every product passes a test
 abbrev pub Passed : (Catalogue → Bool) → Type 0
@@ -104,10 +112,9 @@ pub list-there : (f : Class → List ℕ) (c : ℕ) {x : List ℕ} {m : ℕ} (pr
 list-there f c pr e h = rw e (same-list (λ cat. f (class cat c)) h pr)
 
 -- a number of the class that is another in each product
-pub by-its-product : (f : Class → ℕ) (c : ℕ) {x m small large : ℕ} (pr : Product) → m ≡ c → x ≡ by-product pr small large
-    → (small ≡ f (class-for built.Small c)) × (large ≡ f (class-for built.Large c)) → x ≡ f (class-for pr m)
-by-its-product f c built.Small e g h = rw e (g ∙ h .0)
-by-its-product f c built.Large e g h = rw e (g ∙ h .1)
+pub by-its-product : (f : Class → ℕ) (c : ℕ) {x m small large meter : ℕ} (pr : Product) → m ≡ c → x ≡ by-product pr small large meter
+    → (small ≡ f (class-for built.Small c)) × (large ≡ f (class-for built.Large c)) × (meter ≡ f (class-for built.Meter c)) → x ≡ f (class-for pr m)
+by-its-product f c pr e g h = rw e (in-its-product (λ pr x. x ≡ f (class-for pr c)) pr g h)
 
 pub empty-none : {A : Type 0} (l : List A) → empty l ≡ true → [] ≡ l
 empty-none [] h = refl
@@ -139,3 +146,4 @@ of-each p h pr c = otherwise pr c [] tt p h
 pub product-small : (pr : Product) → product-of pr < 256
 product-small built.Small = omega arith
 product-small built.Large = omega arith
+product-small built.Meter = omega arith

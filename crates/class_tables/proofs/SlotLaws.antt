@@ -23,7 +23,7 @@ use Rattle.store.specs.Layout.{slot-count}
 use Rattle.store.specs.Positions.{position}
 use Rattle.store.proofs.Widths.{slots-are-enough}
 use Rattle.class_tables.proofs.Matches.{Avoids, not-there}
-use Rattle.class_tables.proofs.EveryProduct.{fits-of, Passed, in-each}
+use Rattle.class_tables.proofs.EveryProduct.{fits-of, in-its-product, Passed, in-each}
 use Rattle.store.proofs.Positions.{not-placed}
 
 -- a position is this one
@@ -48,11 +48,12 @@ same-slot c n {j} pr e h =
     rw e (at-it j (position (key c n) (automatic-keys (cat-of pr))) (in-each (λ cat. is-at j (position (key c n) (automatic-keys cat))) h pr))
 
 -- one that has a slot in Large alone
-pub large-slot : (c n j : ℕ) {m : ℕ} {r : Found} (pr : Product) → m ≡ n → r ≡ by-product pr Nothing (At j)
-    → (none ≡ position (key c n) (automatic-keys (cat-of built.Small))) × (some j ≡ position (key c n) (automatic-keys (cat-of built.Large)))
+pub large-slot : (c n j : ℕ) {m : ℕ} {r : Found} (pr : Product) → m ≡ n → r ≡ by-product pr Nothing (At j) Nothing
+    → (none ≡ position (key c n) (automatic-keys (cat-of built.Small)))
+    × (some j ≡ position (key c n) (automatic-keys (cat-of built.Large)))
+    × (none ≡ position (key c n) (automatic-keys (cat-of built.Meter)))
     → found-of r ≡ position (key c m) (automatic-keys (cat-of pr))
-large-slot c n j built.Small e g h = rw (e, g) (h .0)
-large-slot c n j built.Large e g h = rw (e, g) (h .1)
+large-slot c n j pr e g h = rw e (in-its-product (λ pr r. found-of r ≡ position (key c n) (automatic-keys (cat-of pr))) pr g h)
 
 pub few-slots : (pr : Product) → length (automatic-keys (cat-of pr)) ≤ slot-count
 few-slots pr = slots-are-enough (cat-of pr) (fits-of pr)

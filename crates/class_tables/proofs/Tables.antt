@@ -18,7 +18,7 @@ use Rattle.class_tables.specs.declared.Rule.{Rule}
 use Rattle.class_tables.specs.declared.Rule.the-variants.{Any, Range, Listed, Pointer}
 use Rattle.class_tables.specs.declared.Attribute.{Attribute}
 use Rattle.class_tables.specs.declared.Product.{Product}
-use Rattle.class_tables.specs.declared.Product.the-variants.{Small, Large}
+use Rattle.class_tables.specs.declared.Product.the-variants.{Small, Large, Meter}
 use Rattle.class_tables.specs.Built.{cat-of, class-for}
 use Rattle.class_tables.specs.Meaning.{absent-line, is-any, meaning}
 use Rattle.class_tables.specs.Lines.{Lines, lines-of, lines-in, line-in, line-for}
@@ -35,6 +35,7 @@ same-tables : (pr : Product) → each (λ c k. k .attributes) (cat-of pr .classe
 unfolding computing-tables
 same-tables Small = refl
 same-tables Large = refl
+same-tables Meter = refl
 
 abbrev may-be-looked-at : Class → ℕ → Bool
 may-be-looked-at k n = supported k n and is-stored (attribute k n .source) and is-fixed (attribute k n) and eqb (size-of k n) 1
@@ -60,6 +61,7 @@ lines-fit : (pr : Product) → every (λ c m. every (fits-in (class-for pr c)) m
 unfolding computing-tables
 lines-fit Small = refl
 lines-fit Large = refl
+lines-fit Meter = refl
 
 absent-means : meaning absent-line ≡ no-attribute
 unfolding computing-tables

@@ -7,7 +7,7 @@ use Rattle.class_tables.specs.declared.Rights.the-variants.{R, W, C, Wc,
 use Rattle.class_tables.specs.declared.Way.the-variants.{Copied, OfCreator, CountOf}
 use Rattle.class_tables.specs.declared.Attribute.{Attribute}
 use Rattle.class_tables.specs.declared.Product.{Product}
-use Rattle.class_tables.specs.declared.Product.the-variants.{Small, Large}
+use Rattle.class_tables.specs.declared.Product.the-variants.{Small, Large, Meter}
 use Rattle.class_tables.specs.Meaning.{line, kept-line, carried-line, absent-line, with-avc, judged-if}
 
 -- ---- the classes
@@ -34,6 +34,15 @@ large-uni-lines = uni-lines ++
     ∷ (11, kept-line 1 12 W 2 (Range 0 2))
     ∷ (12, kept-line 1 13 W 0 (Range 0 1))
     ∷ (13, kept-line 1 14 W 0 Any)
+    ∷ []
+
+-- those of Small that Meter has, closed up
+unfoldable pub meter-uni-lines : Map Attribute
+meter-uni-lines =
+    (1, kept-line 1 0 W 0 Any)
+    ∷ (2, with-avc (kept-line 1 1 L 0 Any))
+    ∷ (5, kept-line 1 2 W 0 (Range 0 1))
+    ∷ (6, with-avc (kept-line 1 3 L 0 (Range 0 1)))
     ∷ []
 
 unfoldable pub profile-lines : Map Attribute
@@ -87,9 +96,13 @@ small-lines = (2, ont-data-lines) ∷ (11, uni-lines) ∷ (45, profile-lines) �
 unfoldable pub large-lines : Lines
 large-lines = (2, ont-data-lines) ∷ (11, large-uni-lines) ∷ (45, profile-lines) ∷ (46, large-bridge-lines) ∷ (47, large-port-lines) ∷ []
 
+unfoldable pub meter-lines : Lines
+meter-lines = (2, ont-data-lines) ∷ (11, meter-uni-lines) ∷ []
+
 unfoldable pub lines-of : Product → Lines
 lines-of Small = small-lines
 lines-of Large = large-lines
+lines-of Meter = meter-lines
 
 -- ---- looking up
 
@@ -104,6 +117,6 @@ unfoldable pub line-for : Product → ℕ → ℕ → Attribute
 line-for pr c n = line-in (lines-in (lines-of pr) c) n
 
 unfoldable pub computing-lines : ℕ
-unfolding ont-data-lines uni-lines large-uni-lines profile-lines bridge-lines large-bridge-lines port-lines large-port-lines
-    small-lines large-lines lines-of lines-in line-in line-for computing-maps
+unfolding ont-data-lines uni-lines large-uni-lines meter-uni-lines profile-lines bridge-lines large-bridge-lines port-lines large-port-lines
+    small-lines large-lines meter-lines lines-of lines-in line-in line-for computing-maps
 computing-lines = 0

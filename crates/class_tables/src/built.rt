@@ -2,7 +2,7 @@
 use super::Named;
 use super::Product;
 ghost use mathlib.Core.Path.{_≡_};
-ghost use Rattle.class_tables.specs.Built.{product-of, Names};
+ghost use Rattle.class_tables.specs.Built.{product-of, by-product, provisioned, Names};
 
 // The product that a number names: the one place where a byte is turned into a product.
 pub fn product_at(number: u8) -> Named
@@ -11,6 +11,7 @@ pub fn product_at(number: u8) -> Named
     match number {
         1 => Named::Is(Product::Small),
         2 => Named::Is(Product::Large),
+        3 => Named::Is(Product::Meter),
         _ => Named::Nothing,
     }
 }
@@ -22,5 +23,28 @@ pub fn number_of(product: Product) -> u8
     match product {
         Product::Small => 1,
         Product::Large => 2,
+        Product::Meter => 3,
+    }
+}
+
+// One of three numbers, by product.
+pub fn by(product: Product, small: u16, large: u16, meter: u16) -> u16
+    ensures { λ r. ⌜ r ≡ by-product product small large meter ⌝ }
+{
+    match product {
+        Product::Small => small,
+        Product::Large => large,
+        Product::Meter => meter,
+    }
+}
+
+// Has the product bridges and ports, and the commands Create, Delete and Set? Meter has neither.
+pub fn provisioned(product: Product) -> bool
+    ensures { λ r. ⌜ r ≡ provisioned product ⌝ }
+{
+    match product {
+        Product::Small => true,
+        Product::Large => true,
+        Product::Meter => false,
     }
 }

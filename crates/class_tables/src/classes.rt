@@ -1,6 +1,8 @@
 // What holds of each class as a whole. Where the products agree, `product` isn't asked.
 use super::Product;
 use super::Unkept;
+use super::built::by;
+use super::built::provisioned;
 use message_frame::numbers::CREATE;
 use message_frame::numbers::DELETE;
 use message_frame::numbers::GET;
@@ -36,9 +38,9 @@ pub fn class_at(product: Product, j: usize) -> u16
     match j {
         0 => 2,
         1 => 11,
-        2 => 45,
-        3 => 46,
-        4 => 47,
+        2 => by(product, 45, 45, 0),
+        3 => by(product, 46, 46, 0),
+        4 => by(product, 47, 47, 0),
         _ => 0,
     }
 }
@@ -47,7 +49,8 @@ pub fn known(product: Product, class: u16) -> bool
     ensures { λ r. ⌜ r ≡ known (cat-of product) class ⌝ }
 {
     match class {
-        2 | 11 | 45 | 46 | 47 => true,
+        2 | 11 => true,
+        45 | 46 | 47 => provisioned(product),
         _ => false,
     }
 }
@@ -56,11 +59,13 @@ pub fn known(product: Product, class: u16) -> bool
 pub fn allows(product: Product, class: u16, message: u8) -> bool
     ensures { λ r. ⌜ r ≡ among message (class-for product class .commands) ⌝ }
 {
-    let set_or_get = (message == SET) | (message == GET);
+    let changes = provisioned(product);
+    let set_or_get = (changes & (message == SET)) | (message == GET);
     match class {
         2 => set_or_get | (message == RESET),
-        11 | 46 => set_or_get,
-        45 | 47 => (message == CREATE) | (message == DELETE) | set_or_get,
+        11 => set_or_get,
+        46 => changes & set_or_get,
+        45 | 47 => changes & ((message == CREATE) | (message == DELETE) | set_or_get),
         _ => false,
     }
 }
@@ -70,7 +75,7 @@ pub fn is_created(product: Product, class: u16) -> bool
     ensures { λ r. ⌜ r ≡ is-created (class-for product class .creation) ⌝ }
 {
     match class {
-        45 | 47 => true,
+        45 | 47 => provisioned(product),
         _ => false,
     }
 }
@@ -80,7 +85,7 @@ pub fn leader_of(product: Product, class: u16) -> u16
     ensures { λ r. ⌜ r ≡ leader (cat-of product) class ⌝ }
 {
     match class {
-        46 => 45,
+        46 => by(product, 45, 45, 46),
         _ => class,
     }
 }
@@ -90,7 +95,7 @@ pub fn companion_of(product: Product, class: u16) -> u16
     ensures { λ r. ⌜ Companion product class r ⌝ }
 {
     match class {
-        45 => 46,
+        45 => by(product, 46, 46, 0),
         _ => 0,
     }
 }
@@ -100,7 +105,11 @@ pub fn inside(product: Product, class: u16) -> usize
     ensures { λ r. ⌜ r ≡ inside (cat-of product) class ⌝ }
 {
     match class {
-        46 => 11,
+        46 => match product {
+            Product::Small => 11,
+            Product::Large => 11,
+            Product::Meter => 0,
+        },
         _ => 0,
     }
 }
@@ -124,6 +133,7 @@ pub fn unkept(product: Product, class: u16) -> Unkept
             match product {
                 Product::Small => Unkept { number: 9, size: 1 },
                 Product::Large => Unkept { number: 0, size: 0 },
+                Product::Meter => Unkept { number: 0, size: 0 },
             }
         }
         _ => Unkept { number: 0, size: 0 },

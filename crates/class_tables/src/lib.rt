@@ -8,6 +8,7 @@ pub mod slots;
 pub enum Product {
     Small,
     Large,
+    Meter,
 }
 
 // What a number names: a product, or nothing that is built.

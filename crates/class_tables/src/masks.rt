@@ -1,31 +1,22 @@
 // The attributes of each class as masks: attribute 1 is the top bit of sixteen.
 use super::Product;
+use super::built::by;
 ghost use mathlib.Core.Path.{_≡_};
 ghost use Rattle.rules.specs.Maps.{keys};
 ghost use Rattle.rules.specs.Masks.{mask};
 ghost use Rattle.rules.specs.Catalogue.{stored-numbers, carried-numbers};
-ghost use Rattle.class_tables.specs.Built.{class-for, by-product};
+ghost use Rattle.class_tables.specs.Built.{class-for};
 ghost use Rattle.class_tables.specs.Masks.{writable-numbers};
-
-// One of two masks, by product.
-fn by(product: Product, small: u16, large: u16) -> u16
-    ensures { λ r. ⌜ r ≡ by-product product small large ⌝ }
-{
-    match product {
-        Product::Small => small,
-        Product::Large => large,
-    }
-}
 
 pub fn supported_mask(product: Product, class: u16) -> u16
     ensures { λ r. ⌜ r ≡ mask (keys (class-for product class .attributes)) ⌝ }
 {
     match class {
         2 => 0x8000,
-        11 => by(product, 0xFC00, 0xFFF8),
-        45 => 0xFE00,
-        46 => by(product, 0xFC00, 0xFF00),
-        47 => by(product, 0xFF00, 0xFF80),
+        11 => by(product, 0xFC00, 0xFFF8, 0xCC00),
+        45 => by(product, 0xFE00, 0xFE00, 0),
+        46 => by(product, 0xFC00, 0xFF00, 0),
+        47 => by(product, 0xFF00, 0xFF80, 0),
         _ => 0,
     }
 }
@@ -36,9 +27,9 @@ pub fn writable_mask(product: Product, class: u16) -> u16
 {
     match class {
         2 => 0x8000,
-        11 => by(product, 0xB800, 0xB9F8),
-        45 => 0xFE00,
-        47 => by(product, 0x0F00, 0x0F80),
+        11 => by(product, 0xB800, 0xB9F8, 0x8800),
+        45 => by(product, 0xFE00, 0xFE00, 0),
+        47 => by(product, 0x0F00, 0x0F80, 0),
         _ => 0,
     }
 }
@@ -48,8 +39,8 @@ pub fn carried_mask(product: Product, class: u16) -> u16
     ensures { λ r. ⌜ r ≡ mask (carried-numbers (class-for product class)) ⌝ }
 {
     match class {
-        45 => 0xFE00,
-        47 => by(product, 0xFF00, 0xFF80),
+        45 => by(product, 0xFE00, 0xFE00, 0),
+        47 => by(product, 0xFF00, 0xFF80, 0),
         _ => 0,
     }
 }
@@ -59,10 +50,10 @@ pub fn stored_mask(product: Product, class: u16) -> u16
 {
     match class {
         2 => 0x8000,
-        11 => by(product, 0xFC00, 0xFFF8),
-        45 => 0xFE00,
-        46 => by(product, 0xB400, 0xB700),
-        47 => by(product, 0xFF00, 0xFF80),
+        11 => by(product, 0xFC00, 0xFFF8, 0xCC00),
+        45 => by(product, 0xFE00, 0xFE00, 0),
+        46 => by(product, 0xB400, 0xB700, 0),
+        47 => by(product, 0xFF00, 0xFF80, 0),
         _ => 0,
     }
 }

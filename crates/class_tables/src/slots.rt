@@ -19,16 +19,18 @@ pub fn slots(product: Product) -> usize
     match product {
         Product::Small => 1,
         Product::Large => 4,
+        Product::Meter => 1,
     }
 }
 
 // A slot that Large alone has.
 fn only_large(product: Product, j: usize) -> Found
-    ensures { λ r. ⌜ r ≡ by-product product Nothing (At j) ⌝ }
+    ensures { λ r. ⌜ r ≡ by-product product Nothing (At j) Nothing ⌝ }
 {
     match product {
         Product::Small => Found::Nothing,
         Product::Large => Found::At(j),
+        Product::Meter => Found::Nothing,
     }
 }
 

@@ -6,23 +6,23 @@ use mathlib.Core.Bool.{Bool, true, false}
 use mathlib.Core.List.{List, [], _∷_}
 use lib.ListN.{length, take, drop, length-drop, drop-of-length-le, take-append-drop}
 use lib.Seq.{length-take-le, drop-append-le, take-suc, drop-at}
-use lib.Dec.{eqb, leb}
+use lib.Dec.{eqb, leb, ltb}
 use Rattle.rules.specs.Maps.{_and_, Map, keys, all, empty}
 use Rattle.rules.specs.Bytes.{byte, are-bytes, all-zero}
 use Rattle.rules.specs.Catalogue.{Class, Catalogue, class, is-created, family, ont-data}
-use Rattle.rules.proofs.Laws.{never, both, and-true, true-and, bool-eq, eqb-true, eqb-eq, leb-le, le-leb}
+use Rattle.rules.proofs.Laws.{never, both, and-true, true-and, bool-eq, eqb-true, eqb-eq, leb-le, lt-ltb, ltb-lt}
 use Rattle.rules.proofs.MapLaws.{Each}
 use Rattle.rules.proofs.Families.{family-classes}
-use Rattle.rules.proofs.Conjunctions.{and-assoc, and-end}
+use Rattle.rules.proofs.Conjunctions.{and-assoc, and-end, join-never}
 use Rattle.rules.proofs.ByteLaws.{bytes-drop}
 use Rattle.octets.proofs.Tests.{zeros-append}
 use Rattle.store.specs.Layout.{ont-data-width, place-width, contents-width, family-width}
 use Rattle.class_tables.specs.declared.Product.{Product}
-use Rattle.class_tables.specs.declared.Product.the-variants.{Small, Large}
-use Rattle.class_tables.specs.Built.{cat-of, class-for}
+use Rattle.class_tables.specs.declared.Product.the-variants.{Small, Large, Meter}
+use Rattle.class_tables.specs.Built.{cat-of, class-for, by-product, provisioned}
 use Rattle.class_tables.specs.Lines.{lines-of, lines-in}
 use Rattle.class_tables.specs.Computing.{computing-tables}
-use Rattle.class_tables.proofs.EveryProduct.{well-formed-of, in-each, same-number, empty-none}
+use Rattle.class_tables.proofs.EveryProduct.{well-formed-of, in-its-product, in-each, same-number, empty-none}
 use Rattle.class_tests.specs.ContentTests.{judged-lines, all-pass, lines-test, contents-test, computing-tests}
 use Rattle.class_tests.specs.Tests.{family-legal, family-test, entry-test, front-test, port-front}
 use Rattle.class_tests.proofs.ContentsTested.{contents-tested}
@@ -99,6 +99,16 @@ module _ (pr : Product) (c width : ℕ) (b : List ℕ) (computed : wide pr c wid
     unfolding front-test
     front-is w = rw (made, legal-is, its-width, true-and) refl
 
+-- a product in which the class can't be created has no place of it
+module _ (cat : Catalogue) (c : ℕ) (b : List ℕ) (never : is-created (class cat c .creation) ≡ false) where
+  pub no-entry : entry-test cat c b ≡ false
+  unfolding _and_
+  no-entry = rw never refl
+
+  pub no-front : (w : ℕ) → front-test cat c w b ≡ false
+  unfolding front-test _and_
+  no-front w = rw never refl
+
 -- nothing but the zeros from byte w on is left of an entry
 fronted : (cat : Catalogue) (c w : ℕ) (b : List ℕ) → family-width (family cat c) ≤ w → w ≤ length b
     → entry-test cat c b ≡ (front-test cat c w b and all-zero (drop w b))
@@ -112,22 +122,39 @@ fronted cat c w b narrow room =
 
 -- the places of the products, each with its own zeros
 module _ (b : List ℕ) (h : length b ≡ place-width) (bs : are-bytes b ≡ true) where
-  pub small-profile : entry-test (cat-of Small) 45 b ≡ (contents-test Small 45 b and all-zero (drop 31 b))
+  small-profile : entry-test (cat-of Small) 45 b ≡ (contents-test Small 45 b and all-zero (drop 31 b))
   small-profile = entry-is Small 45 31 b (unfold computing-tables computing-tests in refl) (omega arith) bs (unfold computing-tables in refl)
 
-  pub large-profile : entry-test (cat-of Large) 45 b ≡ contents-test Large 45 b
+  large-profile : entry-test (cat-of Large) 45 b ≡ contents-test Large 45 b
   large-profile =
       entry-is Large 45 place-width b (unfold computing-tables computing-tests in refl) (omega arith) bs (unfold computing-tables in refl)
       ∙ rw (none-left place-width b h) (and-end (contents-test Large 45 b))
 
-  pub small-port : front-test (cat-of Small) 47 port-front b ≡ (contents-test Small 47 b and leb (byte b 12) 0)
+  same-profile : contents-test Large 45 b ≡ contents-test Small 45 b
+  unfolding computing-tables computing-tests
+  same-profile = refl
+
+  -- by whether the contents fill their place
+  module _ (pr : Product) {fills : Bool} (e : fills ≡ by-product pr false true false) where
+    pub profile-filled : fills ≡ true → contents-test Large 45 b ≡ entry-test (cat-of pr) 45 b
+    profile-filled = in-its-product (λ pr x. x ≡ true → contents-test Large 45 b ≡ entry-test (cat-of pr) 45 b) pr e
+        ((λ t. never t), (λ t. sym large-profile), λ t. never t)
+
+    pub profile-narrow : fills ≡ false → ((contents-test Large 45 b and provisioned pr) and all-zero (drop 31 b)) ≡ entry-test (cat-of pr) 45 b
+    profile-narrow = in-its-product (λ pr x. x ≡ false → ((contents-test Large 45 b and provisioned pr) and all-zero (drop 31 b)) ≡ entry-test (cat-of pr) 45 b) pr e (
+      (λ t. rw (same-profile, and-end (contents-test Small 45 b)) (sym small-profile)),
+      (λ t. never (sym t)),
+      (λ t. rw (no-entry (cat-of Meter) 45 b (unfold computing-tables in refl)) (unfold _and_ in rw (join-never (contents-test Large 45 b)) refl)),
+    )
+
+  pub small-port : front-test (cat-of Small) 47 port-front b ≡ (contents-test Small 47 b and ltb (byte b 12) 1)
   unfolding all-zero all
   small-port =
       front-is Small 47 12 b (unfold computing-tables computing-tests in refl) (omega arith) bs (unfold computing-tables in refl) port-front
       ∙ rw (take-suc b 12 0 (omega arith), drop-at (take 12 b) (byte b 12 ∷ []) 12 (length-take-le 12 b (omega arith)), and-end (eqb (byte b 12) 0), none-or-some (byte b 12)) refl
     where
-      none-or-some : (x : ℕ) → eqb x 0 ≡ leb x 0
-      none-or-some x = bool-eq (eqb x 0) (leb x 0) (λ e. le-leb x 0 (omega (arith, eqb-eq x 0 e))) (λ e. eqb-true x 0 (omega (arith, leb-le x 0 e)))
+      none-or-some : (x : ℕ) → eqb x 0 ≡ ltb x 1
+      none-or-some x = bool-eq (eqb x 0) (ltb x 1) (λ e. lt-ltb x 1 (omega (arith, eqb-eq x 0 e))) (λ e. eqb-true x 0 (omega (arith, ltb-lt x 1 e)))
 
   pub large-port : front-test (cat-of Large) 47 port-front b ≡ contents-test Large 47 b
   large-port =
@@ -146,6 +173,7 @@ counter-free : (pr : Product) → free pr (keys (family (cat-of pr) ont-data)) �
 unfolding computing-tables computing-tests
 counter-free Small = refl
 counter-free Large = refl
+counter-free Meter = refl
 
 counter-wide : (pr : Product) → family-width (family (cat-of pr) ont-data) ≡ ont-data-width
 counter-wide pr = sym (same-number (λ cat. family-width (family cat ont-data)) {x = ont-data-width} (unfold computing-tables in refl) pr)

@@ -2,15 +2,16 @@
 // order are joined by `&`, which makes no branch.
 use class_tables::Found;
 use class_tables::Product;
+use class_tables::built::provisioned;
 use class_tables::slots;
 use std::num::wrapping_sub_u16;
 ghost use mathlib.Core.Path.{_≡_};
-ghost use mathlib.Core.Bool.{_&&_};
+ghost use mathlib.Core.Bool.{true, false, _&&_};
 ghost use Prim.Native.Nat.{_≤_};
 ghost use lib.Dec.{leb};
 ghost use lib.ListN.{length};
 ghost use Rattle.store.specs.Layout.{place-width};
-ghost use Rattle.class_tables.specs.Built.{cat-of};
+ghost use Rattle.class_tables.specs.Built.{cat-of, by-product};
 ghost use Rattle.class_tests.specs.ContentTests.{pointer-test};
 ghost use Rattle.class_tests.specs.Tests.{entry-test, front-test, port-front};
 
@@ -39,7 +40,19 @@ fn pointer_legal(product: Product, c: &[u8]) -> bool
     }
 }
 
-// A place of a bridge service profile, 45, with its 46, whose contents may be anything. In Large they leave no room.
+// Do the contents of a 45 and its 46 leave no room in their place? Large's do. One question with two answers, where each product could have its
+// own: so the loop around `profile_ok` is compiled once for each answer, without a test of the product in it.
+fn profile_fills(product: Product) -> bool
+    ensures { λ r. ⌜ r ≡ by-product product false true false ⌝ }
+{
+    match product {
+        Product::Small => false,
+        Product::Large => true,
+        Product::Meter => false,
+    }
+}
+
+// A place of a bridge service profile, 45, with its 46, whose contents may be anything. Meter has no bridges.
 pub fn profile_ok(product: Product, c: &[u8]) -> bool
     requires { ⌜ length (now c) ≡ place-width ⌝ }
     ensures { λ r. ⌜ r ≡ entry-test (cat-of product) 45 (now (c .entry)) ⌝ }
@@ -48,9 +61,10 @@ pub fn profile_ok(product: Product, c: &[u8]) -> bool
     let hello = between(octets::number_at(c, 7), 0x0100, 0x0A00);
     let delay = between(octets::number_at(c, 9), 0x0400, 0x1E00);
     let legal = (c[0] <= 1) & (c[1] <= 1) & (c[2] <= 1) & age & hello & delay;
-    match product {
-        Product::Small => legal & octets::zeros_from(c, 31),
-        Product::Large => legal,
+    if profile_fills(product) {
+        legal
+    } else {
+        legal & provisioned(product) & octets::zeros_from(c, 31)
     }
 }
 
@@ -65,10 +79,11 @@ pub fn port_ok(product: Product, c: &[u8]) -> bool
     let pointer = pointer_legal(product, c);
     let priority = octets::number_at(c, 6);
     let cost = octets::number_at(c, 8);
-    // LANFCSInd, which Small doesn't keep
-    let most: u8 = match product {
-        Product::Small => 0,
-        Product::Large => 1,
+    // LANFCSInd is below this: Small doesn't keep it, and Meter has no ports, so that nothing is legal
+    let end: u8 = match product {
+        Product::Small => 1,
+        Product::Large => 2,
+        Product::Meter => 0,
     };
-    pointer & (priority <= 255) & (1 <= cost) & (c[10] <= 1) & (c[11] <= 1) & (c[12] <= most)
+    pointer & (priority <= 255) & (1 <= cost) & (c[10] <= 1) & (c[11] <= 1) & (c[12] < end)
 }

@@ -11,7 +11,7 @@ use Rattle.rules.specs.Bytes.{byte, are-bytes, all-zero, bits, computing-bytes}
 use Rattle.rules.specs.Catalogue.{class}
 use Rattle.rules.specs.Legal.{automatic-keys, declared-from, computing-legal}
 use Rattle.class_tables.specs.declared.Product.{Product}
-use Rattle.class_tables.specs.declared.Product.the-variants.{Small, Large}
+use Rattle.class_tables.specs.declared.Product.the-variants.{Large}
 use Rattle.class_tables.specs.Built.{cat-of}
 use Rattle.class_tables.specs.Computing.{computing-tables}
 use Rattle.class_tables.proofs.EveryProduct.{same-list}
@@ -21,7 +21,7 @@ use Rattle.slot_tests.specs.Tests.{alarm-byte-test, alarms-test}
 use Rattle.rules.proofs.Conjunctions.{and-end}
 use Rattle.rules.proofs.Computed.{all-below, alike-below}
 use Rattle.class_tests.proofs.Entries.{none-left}
-use Rattle.slot_tests.proofs.Slots.{small-keys, large-keys}
+use Rattle.slot_tests.proofs.Slots.{OneUni, large-keys}
 
 top-bit : (x : ℕ) → x < 256 → declared-from 0 (0 ∷ []) (bits 8 x) ≡ eqb (x % 128) 0
 top-bit x h = alike-below (λ x. declared-from 0 (0 ∷ []) (bits 8 x)) (λ x. eqb (x % 128) 0) 256 (unfold all-below computing-maps computing-bytes computing-legal in refl) x h
@@ -34,9 +34,10 @@ module _ (b : List ℕ) (h : length b ≡ slot-count) (bs : are-bytes b ≡ true
   unfolding alarm-byte-test
   alarm-byte pr i = rw (uni-alarms pr) (top-bit (byte b i) (byte-small b i bs))
 
-  pub small-alarms : alarms-test (cat-of Small) (automatic-keys (cat-of Small)) b ≡ (eqb (byte b 0 % 128) 0 and all-zero (drop 1 b))
+  -- a product with one UNI
+  pub one-alarm : (pr : Product) → OneUni pr → alarms-test (cat-of pr) (automatic-keys (cat-of pr)) b ≡ (eqb (byte b 0 % 128) 0 and all-zero (drop 1 b))
   unfolding alarms-test
-  small-alarms = rw (small-keys, alarm-byte Small 0)
+  one-alarm pr keys = rw (keys, alarm-byte pr 0)
 
   pub large-alarms : alarms-test (cat-of Large) (automatic-keys (cat-of Large)) b
       ≡ (eqb (byte b 0 % 128) 0 and (eqb (byte b 1 % 128) 0 and (eqb (byte b 2 % 128) 0 and eqb (byte b 3 % 128) 0)))

@@ -28,10 +28,11 @@ fn uni_legal(product: Product, c: &[u8]) -> bool
     match product {
         Product::Small => common,
         Product::Large => common & (c[9] <= 2) & (c[12] <= 2) & (c[13] <= 1),
+        Product::Meter => (c[2] <= 1) & (c[3] <= 1),
     }
 }
 
-// The slots: in Large four UNIs, in Small one, and zeros.
+// The slots: in Large four UNIs, in Small and Meter one, and zeros.
 pub fn slots_ok(product: Product, b: &[u8]) -> bool
     requires { ⌜ length (now b) ≡ slots-length ⌝ }
     ensures { λ r. ⌜ r ≡ slots-test (cat-of product) (automatic-keys (cat-of product)) (now (b .entry)) ⌝ }
@@ -44,6 +45,7 @@ pub fn slots_ok(product: Product, b: &[u8]) -> bool
                     & (uni_legal(product, &b[THIRD..FOURTH])
                         & uni_legal(product, &b[FOURTH..SLOTS_END])))
         }
+        Product::Meter => uni_legal(product, &b[0..SECOND]) & octets::zeros_from(b, 4),
     }
 }
 
@@ -57,5 +59,6 @@ pub fn alarms_ok(product: Product, b: &[u8]) -> bool
         Product::Large => {
             (b[0] % 128 == 0) & ((b[1] % 128 == 0) & ((b[2] % 128 == 0) & (b[3] % 128 == 0)))
         }
+        Product::Meter => (b[0] % 128 == 0) & octets::zeros_from(b, 1),
     }
 }

@@ -11,6 +11,9 @@ returns c = rw (c .enum-told .given .1) (unfold computing-tables computing-tests
 returns-2 : tie.Need-returns-2
 returns-2 c = rw (c .before .before .before .enum-told2 .given .1) (unfold computing-tables computing-tests in refl)
 
+returns-3 : tie.Need-returns-3
+returns-3 c = rw (c .before .before .enum-told3 .given .1) (unfold computing-tables computing-tests in refl)
+
 pub uni-legal-spec : {M : Type 1} → statement M
 uni-legal-spec =
     tie.close
@@ -24,5 +27,9 @@ uni-legal-spec =
     (λ c. search needs)
     (λ c. search needs)
     (λ c. search needs)
+    (λ c. search needs)
+    (λ c. search needs)
+    (λ c. search needs)
     returns
-    returns-2)
+    returns-2
+    returns-3)

@@ -13,7 +13,10 @@ returns-2 : tie.Need-returns-2
 returns-2 c = rw (c .enum-told2 .given .1, c .before .before .match .keys1) (unfold computing-tables in refl)
 
 returns-3 : tie.Need-returns-3
-returns-3 c = otherwise-none _ _ (47 ∷ []) (c .match .rest) (λ k. k .unkept) (unfold computing-tables in (refl, refl))
+returns-3 c = rw (c .enum-told3 .given .1, c .before .before .match .keys1) (unfold computing-tables in refl)
+
+returns-4 : tie.Need-returns-4
+returns-4 c = otherwise-none _ _ (47 ∷ []) (c .match .rest) (λ k. k .unkept) (unfold computing-tables in (refl, refl))
 
 pub unkept-spec : {M : Type 1} → statement M
-unkept-spec = tie.close (tie.spec (λ c. search needs) (λ c. search needs) returns returns-2 returns-3)
+unkept-spec = tie.close (tie.spec (λ c. search needs) (λ c. search needs) (λ c. search needs) returns returns-2 returns-3 returns-4)

@@ -11,13 +11,13 @@ returns : tie.Need-returns
 returns c = number-there (λ k. mask (writable-numbers k)) 2 _ (c .match .keys1) (unfold computing-tables in refl)
 
 returns-2 : tie.Need-returns-2
-returns-2 c = by-its-product (λ k. mask (writable-numbers k)) 11 _ (c .before .match .keys2) (c .by .ensures) (unfold computing-tables in (refl, refl))
+returns-2 c = by-its-product (λ k. mask (writable-numbers k)) 11 _ (c .before .match .keys2) (c .by .ensures) (unfold computing-tables in (refl, refl, refl))
 
 returns-3 : tie.Need-returns-3
-returns-3 c = number-there (λ k. mask (writable-numbers k)) 45 _ (c .match .keys3) (unfold computing-tables in refl)
+returns-3 c = by-its-product (λ k. mask (writable-numbers k)) 45 _ (c .before .match .keys3) (c .by2 .ensures) (unfold computing-tables in (refl, refl, refl))
 
 returns-4 : tie.Need-returns-4
-returns-4 c = by-its-product (λ k. mask (writable-numbers k)) 47 _ (c .before .match .keys4) (c .by2 .ensures) (unfold computing-tables in (refl, refl))
+returns-4 c = by-its-product (λ k. mask (writable-numbers k)) 47 _ (c .before .match .keys4) (c .by3 .ensures) (unfold computing-tables in (refl, refl, refl))
 
 returns-5 : tie.Need-returns-5
 returns-5 c = otherwise-0 _ _ (47 ∷ 45 ∷ 11 ∷ 2 ∷ []) (c .match .rest) (λ k. mask (writable-numbers k)) (unfold computing-tables in (refl, refl))
@@ -26,6 +26,7 @@ pub writable-mask-spec : {M : Type 1} → statement M
 writable-mask-spec =
     tie.close
     (tie.spec
+    (λ c κs. tt)
     (λ c κs. tt)
     (λ c κs. tt)
     returns

@@ -11,13 +11,13 @@ returns : tie.Need-returns
 returns c = same-slot 11 0x0101 _ (c .match .keys1) (unfold computing-tables in refl)
 
 returns-2 : tie.Need-returns-2
-returns-2 c = large-slot 11 0x0102 1 _ (c .before .match .keys2) (c .only-large .ensures) (unfold computing-tables in (refl, refl))
+returns-2 c = large-slot 11 0x0102 1 _ (c .before .match .keys2) (c .only-large .ensures) (unfold computing-tables in (refl, refl, refl))
 
 returns-3 : tie.Need-returns-3
-returns-3 c = large-slot 11 0x0103 2 _ (c .before .match .keys3) (c .only-large2 .ensures) (unfold computing-tables in (refl, refl))
+returns-3 c = large-slot 11 0x0103 2 _ (c .before .match .keys3) (c .only-large2 .ensures) (unfold computing-tables in (refl, refl, refl))
 
 returns-4 : tie.Need-returns-4
-returns-4 c = large-slot 11 0x0104 3 _ (c .before .match .keys4) (c .only-large3 .ensures) (unfold computing-tables in (refl, refl))
+returns-4 c = large-slot 11 0x0104 3 _ (c .before .match .keys4) (c .only-large3 .ensures) (unfold computing-tables in (refl, refl, refl))
 
 returns-5 : tie.Need-returns-5
 returns-5 c =
