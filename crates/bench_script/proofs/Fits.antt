@@ -6,25 +6,25 @@ use mathlib.Core.Bool.{true, false}
 use mathlib.Core.List.{List, [], _∷_, _++_}
 use lib.ListN.{length, take, getD, length-append}
 use lib.Dec.{eqb, leb, ltb}
+use Rattle.rules.specs.Maps.{same}
 use Rattle.rules.proofs.Laws.{cases, leb-lt}
-use Rattle.script_values.specs.declared.Run.the-variants.{Blanks, Word, Code}
-use Rattle.script_values.specs.declared.Why.the-variants as why
+use Rattle.script_values.specs.declared.Run.the-variants.{Blanks, Code}
+use Rattle.script_values.specs.declared.NextWord.{NextWord}
+use Rattle.script_values.specs.declared.NextWord.the-variants as word
 use Rattle.script_values.specs.declared.Three.{Three}
 use Rattle.script_values.specs.declared.Three.the-variants as three
 use Rattle.script_values.specs.declared.Hex.{Hex}
 use Rattle.script_values.specs.declared.Hex.the-variants as hex
 use Rattle.script_values.specs.Texts.{spelt}
-use Rattle.script_values.specs.Runs.{digit-value, run-end, word-at}
+use Rattle.script_values.specs.Runs.{digit-value, run-end, part, next-word}
 use Rattle.script_values.specs.Numbers.{three-numbers}
 use Rattle.script_values.specs.HexBytes.{pairs, hex-from}
 use Rattle.bench_script.specs.declared.Call.{Call}
 use Rattle.bench_script.specs.declared.Call.the-variants as call
-use Rattle.bench_script.specs.declared.Chosen.{Chosen}
-use Rattle.bench_script.specs.declared.Chosen.the-variants as chosen
 use Rattle.bench_script.specs.declared.Asked.{Asked}
 use Rattle.bench_script.specs.declared.Asked.the-variants as asked
-use Rattle.bench_script.specs.Lines.{call-of, choice, if-last, by-choice, power, on-or-off, alarm-of, alarm, with-bytes, report-of, report, message, read-call, read-from}
-use Rattle.bench_script.specs.Lines.{read, bytes-of}
+use Rattle.bench_script.specs.Lines.{call-of, product-named, if-last, with-word, product-of, power, turned, on-or-off, alarm-of, alarm, with-bytes, report-of, report, message, read-call}
+use Rattle.bench_script.specs.Lines.{read-word, read, bytes-of}
 
 -- ---- bytes in hex
 
@@ -54,19 +54,25 @@ module _ (room : ℕ) (f : ℕ → Asked) (counts : (n : ℕ) → bytes-of (f n)
 if-last-none : (a : Asked) (text : List ℕ) (at : ℕ) → bytes-of a ≡ 0 → bytes-of (if-last a text at) ≡ 0
 if-last-none a text at e = cases (ltb (run-end Blanks text at) (length text)) (λ t. rw t) (λ t. rw t e)
 
-choice-none : (a b : Asked) (text : List ℕ) (c : Chosen) → bytes-of a ≡ 0 → bytes-of b ≡ 0 → bytes-of (by-choice a b text c) ≡ 0
-choice-none a b text (chosen.First next) e f = if-last-none a text next e
-choice-none a b text (chosen.Second next) e f = if-last-none b text next f
-choice-none a b text (chosen.Wrong place w) e f = refl
+word-none : (f : ℕ → ℕ → Asked) → ((from to : ℕ) → bytes-of (f from to) ≡ 0) → (k : NextWord) → bytes-of (with-word f k) ≡ 0
+word-none f h (word.Is from to) = h from to
+word-none f h (word.Missing place) = refl
 
 power-none : (text : List ℕ) (at : ℕ) → bytes-of (power text at) ≡ 0
 unfolding power
-power-none text at = choice-none (asked.Power 1) (asked.Power 2) text (choice (spelt "small") (spelt "large") why.NotAProduct text at) refl refl
+power-none text at = word-none (product-of text) (λ from to. cases (eqb (product-named (part text from to)) 0) (λ t. rw t)
+    (λ t. rw t (if-last-none (asked.Power (product-named (part text from to))) text to refl))) (next-word text at)
+
+turned-none : (text : List ℕ) (class number third from to : ℕ) → bytes-of (turned text class number third from to) ≡ 0
+turned-none text class number third from to = cases (same (part text from to) (spelt "on"))
+    (λ t. rw t (if-last-none (asked.Alarm class number third true) text to refl))
+    (λ t. cases (same (part text from to) (spelt "off"))
+    (λ u. rw (t, u) (if-last-none (asked.Alarm class number third false) text to refl)) (λ u. rw (t, u)))
 
 alarm-none : (text : List ℕ) (t : Three) → bytes-of (alarm-of text t) ≡ 0
 unfolding on-or-off
 alarm-none text (three.Are class number third next) =
-    choice-none (asked.Alarm class number third true) (asked.Alarm class number third false) text (choice (spelt "on") (spelt "off") why.NotOnOrOff text next) refl refl
+    word-none (turned text class number third) (turned-none text class number third) (next-word text next)
 alarm-none text (three.Wrong place w) = refl
 
 -- ---- lines
@@ -91,11 +97,9 @@ module _ (room : ℕ) (text : List ℕ) where
   call-fits from to call.Alarms = rw (if-last-none asked.Alarms text to refl) (omega arith)
   call-fits from to call.Other = message-fits from
 
-  text-fits : (from : ℕ) → bytes-of (read-from room text from .0) ≤ room
-  unfolding read-from
-  text-fits from = cases (ltb from (length text))
-      (λ t. rw t (call-fits from (run-end Word text from) (call-of (word-at text from))))
-      (λ t. rw t (omega arith))
+  text-fits : (k : NextWord) → bytes-of (read-word room text k .0) ≤ room
+  text-fits (word.Is from to) = call-fits from to (call-of (part text from to))
+  text-fits (word.Missing place) = omega arith
 
 pub line-fits : (room : ℕ) (line : List ℕ) → bytes-of (read room line .0) ≤ room
-line-fits room line = text-fits room (take (run-end Code line 0) line) (run-end Blanks (take (run-end Code line 0) line) 0)
+line-fits room line = text-fits room (take (run-end Code line 0) line) (next-word (take (run-end Code line 0) line) 0)

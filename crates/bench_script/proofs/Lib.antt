@@ -1,4 +1,3 @@
-pub mod ChoiceLaws
 pub mod LineLaws
 pub mod Fits
 pub mod ReadBack

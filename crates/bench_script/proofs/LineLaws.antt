@@ -1,28 +1,26 @@
 -- What a line asks for and what a buffer holds then, from the parts of the line that were read.
-use Prim.Native.Nat.{ℕ, _-_, _≤_, _<_}
+use Prim.Native.Nat.{ℕ}
 use mathlib.Core.Path.{_≡_, refl, sym, _∙_, ap}
-use mathlib.Core.Bool.{true, false}
+use mathlib.Core.Bool.{Bool, true, false, _||_}
 use mathlib.Core.List.{List, []}
-use lib.ListN.{length, take, drop, getD}
+use lib.ListN.{getD}
 use borrow.Author.Tests.{ne-eqb}
+use Rattle.rules.specs.Maps.{same}
 use Rattle.rules.specs.Bytes.{laid}
-use Rattle.rules.proofs.Laws.{eqb-true, lt-ltb, le-ltb}
-use Rattle.script_values.specs.declared.Run.the-variants.{Blanks, Word}
+use Rattle.rules.proofs.Laws.{never, eqb-true}
 use Rattle.script_values.specs.declared.Why.{Why}
 use Rattle.script_values.specs.declared.Why.the-variants as why
-use Rattle.script_values.specs.declared.Three.{Three}
+use Rattle.script_values.specs.declared.NextWord.the-variants as word
 use Rattle.script_values.specs.declared.Three.the-variants as three
 use Rattle.script_values.specs.declared.Hex.{Hex}
 use Rattle.script_values.specs.Texts.{spelt}
-use Rattle.script_values.specs.Runs.{digit-value, run-end}
+use Rattle.script_values.specs.Runs.{digit-value, part, next-word}
 use Rattle.script_values.specs.Numbers.{three-numbers}
 use Rattle.script_values.specs.HexBytes.{Decoded, Gives, hex-from}
-use Rattle.script_values.proofs.WordLaws.{part-is-word}
 use Rattle.bench_script.specs.declared.Call.{Call}
-use Rattle.bench_script.specs.declared.Chosen.{Chosen}
 use Rattle.bench_script.specs.declared.Asked.{Asked}
 use Rattle.bench_script.specs.declared.Asked.the-variants as asked
-use Rattle.bench_script.specs.Lines.{call-of, choice, by-choice, power, on-or-off, alarm-of, alarm, with-bytes, holding, report, message, read-call, read-from, read-text}
+use Rattle.bench_script.specs.Lines.{call-of, if-last, turned, with-bytes, holding, report, message, read-call, read-text}
 
 -- no bytes go with it, and the buffer stays as it is
 pub untouched : (a r : Asked) (b : List ℕ) → r ≡ a → Gives (a, []) r b b
@@ -59,31 +57,28 @@ module _ (room : ℕ) (text b : List ℕ) where
 
   -- ---- a text
 
-  module _ (from : ℕ) (f : from ≡ run-end Blanks text 0) where
-    pub nothing-asked : length text ≤ from → Gives (read-text room text) asked.Nothing b b
-    unfolding read-from
-    nothing-asked h = rw (← f, le-ltb from (length text) h) (untouched asked.Nothing _ b refl)
+  pub nothing-asked : (place : ℕ) → next-word text 0 ≡ word.Missing place → Gives (read-text room text) asked.Nothing b b
+  nothing-asked place e = rw e (untouched asked.Nothing _ b refl)
 
-    pub call-read : (to : ℕ) → from < length text → to ≡ run-end Word text from → (k : Call) → call-of (take (to - from) (drop from text)) ≡ k
-        → (r : Asked) (after : List ℕ) → Gives (read-call room text from to k) r b after → Gives (read-text room text) r b after
-    unfolding read-from
-    call-read to h t k e r after g =
-        rw (← f, lt-ltb from (length text) h, ← t, ← part-is-word text from to t, e) g
+  pub call-read : (from to : ℕ) → next-word text 0 ≡ word.Is from to → (k : Call) → call-of (part text from to) ≡ k
+      → (r : Asked) (after : List ℕ) → Gives (read-call room text from to k) r b after → Gives (read-text room text) r b after
+  call-read from to e k f r after g = rw (e, f) g
 
--- ---- calls that hold no bytes, from the choice or the numbers that were read
+-- ---- calls that hold no bytes
 
-module _ (text : List ℕ) (at : ℕ) where
-  pub power-asks : (r k : Chosen) → r ≡ choice (spelt "small") (spelt "large") why.NotAProduct text at → r ≡ k
-      → by-choice (asked.Power 1) (asked.Power 2) text k ≡ power text at
-  unfolding power
-  power-asks r k e f = ap (by-choice (asked.Power 1) (asked.Power 2) text) (sym f ∙ e)
+-- what is asked for by the case that a part was found to be is asked for by the part
+pub by-case : {P : Type 0} (f : P → Asked) {r s k : P} {x : Asked} → r ≡ s → r ≡ k → x ≡ f k → x ≡ f s
+by-case f e c g = g ∙ ap f (sym c ∙ e)
 
-  pub on-or-off-asks : (class number third : ℕ) (r k : Chosen) → r ≡ choice (spelt "on") (spelt "off") why.NotOnOrOff text at → r ≡ k
-      → by-choice (asked.Alarm class number third true) (asked.Alarm class number third false) text k ≡ on-or-off text class number third at
-  unfolding on-or-off
-  on-or-off-asks class number third r k e f =
-      ap (by-choice (asked.Alarm class number third true) (asked.Alarm class number third false) text) (sym f ∙ e)
+module _ (text : List ℕ) (class number third from to : ℕ) where
+  pub neither-named : (on off : Bool) → on ≡ same (part text from to) (spelt "on") → off ≡ same (part text from to) (spelt "off") → (on || off) ≡ false
+      → asked.Wrong from why.NotOnOrOff ≡ turned text class number third from to
+  neither-named false false e f h = rw (← e, ← f)
+  neither-named false true e f h = never (sym h)
+  neither-named true off e f h = never (sym h)
 
-  pub alarm-asks : (r k : Three) (x : Asked) → r ≡ three-numbers text at → r ≡ k → x ≡ alarm-of text k → x ≡ alarm text at
-  unfolding alarm
-  alarm-asks r k x e f g = g ∙ ap (alarm-of text) (sym f ∙ e)
+  pub either-named : (on off : Bool) → on ≡ same (part text from to) (spelt "on") → off ≡ same (part text from to) (spelt "off") → (on || off) ≡ true
+      → if-last (asked.Alarm class number third on) text to ≡ turned text class number third from to
+  either-named false false e f h = never h
+  either-named false true e f h = rw (← e, ← f)
+  either-named true off e f h = rw (← e)

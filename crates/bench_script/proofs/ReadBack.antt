@@ -6,21 +6,22 @@ use mathlib.Core.Path.{_≡_, refl, sym, _∙_, ap}
 use mathlib.Core.Bool.{true, false, cond}
 use mathlib.Core.List.{List, [], _∷_, _++_, append-assoc, append-nil}
 use lib.ListN.{length, take, getD, length-append}
-use lib.Seq.{take-all, take-length}
+use lib.Seq.{take-all}
 use lib.Dec.{eqb, ltb}
 use borrow.Author.Tests.{lt-leb, ne-eqb}
 use Rattle.rules.specs.Maps.{_and_, all, same}
 use Rattle.rules.specs.Bytes.{are-bytes}
 use Rattle.rules.proofs.Laws.{cases, both, eqb-false, ltb-lt, ltb-le, lt-ltb}
 use Rattle.script_values.specs.declared.Run.the-variants.{Blanks, Word, Code}
+use Rattle.script_values.specs.declared.NextWord.the-variants as word
 use Rattle.script_values.specs.declared.Hex.the-variants as hex
 use Rattle.script_values.specs.Texts.{spelt}
-use Rattle.script_values.specs.Runs.{is-blank, is-gap, digit-value, goes-on, run-length, run-end, word-at}
+use Rattle.script_values.specs.Runs.{is-blank, is-gap, digit-value, goes-on, run-length, run-end, word-from, next-word}
 use Rattle.script_values.specs.HexBytes.{marks, pairs}
 use Rattle.script_values.proofs.DigitLaws.{decimal, upper}
 use Rattle.bench_script.specs.declared.Call.the-variants as call
 use Rattle.bench_script.specs.declared.Asked.the-variants as asked
-use Rattle.bench_script.specs.Lines.{call-of, message, read-call, read-from, read}
+use Rattle.bench_script.specs.Lines.{call-of, message, read-call, read-text, read}
 
 -- ---- digits
 
@@ -134,18 +135,21 @@ module _ (room x : ℕ) (v : List ℕ) (b : are-bytes (x ∷ v) ≡ true) (r : l
   unfolding written
   begun = (omega arith, ne-eqb (digit-value (digit-of (x / 16))) 16 (λ q. let z = high-is x (first x v b) in omega arith))
 
-  whole-word : word-at line 0 ≡ line
-  whole-word = rw (one-word (x ∷ v) b) (take-length (written (x ∷ v)))
+  whole-word : next-word line 0 ≡ word.Is 0 (length line)
+  unfolding word-from
+  whole-word =
+      let n : 0 + 0 + length line ≡ length line = omega arith in
+      rw (no-blanks x v b, lt-ltb 0 (length line) (begun .0), one-word (x ∷ v) b) (ap (word.Is 0) n)
 
   message-back : message room line 0 ≡ (asked.Message (length (x ∷ v)), x ∷ v)
   unfolding message
   message-back = rw (begun .1, pairs-back room 0 [] (x ∷ v) b (omega arith))
 
-  text-back : read-from room line 0 ≡ (asked.Message (length (x ∷ v)), x ∷ v)
-  unfolding read-from read-call
-  text-back = rw (lt-ltb 0 (length line) (begun .0), whole-word, no-call x v b) message-back
+  text-back : read-text room line ≡ (asked.Message (length (x ∷ v)), x ∷ v)
+  unfolding read-call
+  text-back = rw (whole-word, take-all (length line - 0) line (omega arith), no-call x v b) message-back
 
   pub read-back : read room (written (x ∷ v)) ≡ (asked.Message (length (x ∷ v)), x ∷ v)
   read-back =
       let t : take (run-end Code line 0) line ≡ line = rw (all-code (x ∷ v) b) (take-all (0 + length line) line (omega arith)) in
-      rw (t, no-blanks x v b) text-back
+      rw t text-back

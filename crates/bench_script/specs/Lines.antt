@@ -5,21 +5,20 @@ use mathlib.Core.List.{List, []}
 use lib.ListN.{length, take, getD}
 use lib.Dec.{eqb, ltb}
 use Rattle.rules.specs.Maps.{computing-maps, same}
-use Rattle.script_values.specs.declared.Run.the-variants.{Blanks, Word, Code}
-use Rattle.script_values.specs.declared.Why.{Why}
+use Rattle.script_values.specs.declared.Run.the-variants.{Blanks, Code}
 use Rattle.script_values.specs.declared.Why.the-variants as why
+use Rattle.script_values.specs.declared.NextWord.{NextWord}
+use Rattle.script_values.specs.declared.NextWord.the-variants as word
 use Rattle.script_values.specs.declared.Three.{Three}
 use Rattle.script_values.specs.declared.Three.the-variants as three
 use Rattle.script_values.specs.declared.Hex.{Hex}
 use Rattle.script_values.specs.declared.Hex.the-variants as hex
 use Rattle.script_values.specs.Texts.{spelt}
-use Rattle.script_values.specs.Runs.{computing-runs, digit-value, run-end, word-at}
+use Rattle.script_values.specs.Runs.{computing-runs, digit-value, run-end, part, next-word}
 use Rattle.script_values.specs.Numbers.{computing-numbers, three-numbers}
 use Rattle.script_values.specs.HexBytes.{computing-hex, Decoded, hex-from}
 use Rattle.bench_script.specs.declared.Call.{Call}
 use Rattle.bench_script.specs.declared.Call.the-variants as call
-use Rattle.bench_script.specs.declared.Chosen.{Chosen}
-use Rattle.bench_script.specs.declared.Chosen.the-variants as chosen
 use Rattle.bench_script.specs.declared.Asked.{Asked}
 use Rattle.bench_script.specs.declared.Asked.the-variants as asked
 
@@ -38,18 +37,11 @@ call-of w =
     (cond (same w (spelt "upload")) call.Upload
     (cond (same w (spelt "alarms")) call.Alarms call.Other))))
 
--- one of two words, which begins at a place
-unfoldable pub choice-from : List ℕ → List ℕ → Why → List ℕ → ℕ → Chosen
-choice-from first second w text from =
-    cond (ltb from (length text))
-    (cond (same (word-at text from) first) (chosen.First (run-end Word text from))
-    (cond (same (word-at text from) second) (chosen.Second (run-end Word text from))
-    (chosen.Wrong from w)))
-    (chosen.Wrong from why.MissingWord)
-
--- the next word, one of two
-abbrev pub choice : List ℕ → List ℕ → Why → List ℕ → ℕ → Chosen
-choice first second w text at = choice-from first second w text (run-end Blanks text at)
+-- the number of the product that a word names, and 0 if it names none
+unfoldable pub product-named : List ℕ → ℕ
+product-named w =
+    cond (same w (spelt "small")) 1
+    (cond (same w (spelt "large")) 2 0)
 
 -- ---- calls
 
@@ -57,20 +49,30 @@ choice first second w text at = choice-from first second w text (run-end Blanks 
 abbrev pub if-last : Asked → List ℕ → ℕ → Asked
 if-last a text at = cond (ltb (run-end Blanks text at) (length text)) (asked.Wrong (run-end Blanks text at) why.TooMuch) a
 
--- what each of two words asks for
-abbrev pub by-choice : Asked → Asked → List ℕ → Chosen → Asked
-by-choice a b text (chosen.First next) = if-last a text next
-by-choice a b text (chosen.Second next) = if-last b text next
-by-choice a b text (chosen.Wrong place w) = asked.Wrong place w
+-- what a word asks for that has to be there
+abbrev pub with-word : (ℕ → ℕ → Asked) → NextWord → Asked
+with-word f (word.Is from to) = f from to
+with-word f (word.Missing place) = asked.Wrong place why.MissingWord
+
+-- the product that a word names
+abbrev pub product-of : List ℕ → ℕ → ℕ → Asked
+product-of text from to =
+    cond (eqb (product-named (part text from to)) 0) (asked.Wrong from why.NotAProduct)
+    (if-last (asked.Power (product-named (part text from to))) text to)
 
 -- power small|large
 unfoldable pub power : List ℕ → ℕ → Asked
-power text at = by-choice (asked.Power 1) (asked.Power 2) text (choice (spelt "small") (spelt "large") why.NotAProduct text at)
+power text at = with-word (product-of text) (next-word text at)
+
+-- an alarm that a word says to be on or off
+abbrev pub turned : List ℕ → ℕ → ℕ → ℕ → ℕ → ℕ → Asked
+turned text class number third from to =
+    cond (same (part text from to) (spelt "on")) (if-last (asked.Alarm class number third true) text to)
+    (cond (same (part text from to) (spelt "off")) (if-last (asked.Alarm class number third false) text to)
+    (asked.Wrong from why.NotOnOrOff))
 
 unfoldable pub on-or-off : List ℕ → ℕ → ℕ → ℕ → ℕ → Asked
-on-or-off text class number third at =
-    by-choice (asked.Alarm class number third true) (asked.Alarm class number third false) text
-    (choice (spelt "on") (spelt "off") why.NotOnOrOff text at)
+on-or-off text class number third at = with-word (turned text class number third) (next-word text at)
 
 -- alarm CLASS INSTANCE NUMBER on|off
 abbrev pub alarm-of : List ℕ → Three → Asked
@@ -112,14 +114,14 @@ read-call room text from to call.Upload = (if-last asked.Upload text to, [])
 read-call room text from to call.Alarms = (if-last asked.Alarms text to, [])
 read-call room text from to call.Other = message room text from
 
--- a text whose first word begins at a place
-unfoldable pub read-from : ℕ → List ℕ → ℕ → Read
-read-from room text from =
-    cond (ltb from (length text)) (read-call room text from (run-end Word text from) (call-of (word-at text from))) (asked.Nothing, [])
+-- a text by its first word; without one it asks for nothing
+abbrev pub read-word : ℕ → List ℕ → NextWord → Read
+read-word room text (word.Is from to) = read-call room text from to (call-of (part text from to))
+read-word room text (word.Missing place) = (asked.Nothing, [])
 
 -- a text without a comment
 abbrev pub read-text : ℕ → List ℕ → Read
-read-text room text = read-from room text (run-end Blanks text 0)
+read-text room text = read-word room text (next-word text 0)
 
 -- a line: its text goes up to the comment
 abbrev pub read : ℕ → List ℕ → Read
@@ -138,6 +140,6 @@ bytes-of (asked.Wrong place w) = 0
 
 -- every definition of a line, opened
 unfoldable pub computing-lines : ℕ
-unfolding computing-maps spelt computing-runs computing-numbers computing-hex call-of choice-from power on-or-off alarm report message
-    read-call read-from
+unfolding computing-maps spelt computing-runs computing-numbers computing-hex call-of product-named power on-or-off alarm report message
+    read-call
 computing-lines = 0

@@ -1,10 +1,12 @@
 // One line of a bench script, read: what it asks for, or where and why it can't be read.
 use script_values::Hex;
+use script_values::NextWord;
 use script_values::Run;
 use script_values::Three;
 use script_values::Why;
 use script_values::digit;
 use script_values::hex_bytes;
+use script_values::next_word;
 use script_values::run_end;
 use script_values::three_numbers;
 ghost use mathlib.Core.Path.{_≡_};
@@ -43,13 +45,6 @@ pub enum Asked {
     },
 }
 
-// One of two words, and where it ends.
-pub enum Chosen {
-    First(usize),
-    Second(usize),
-    Wrong { place: usize, why: Why },
-}
-
 // The first word of a line.
 pub enum Call {
     Power,
@@ -58,27 +53,6 @@ pub enum Call {
     Upload,
     Alarms,
     Other,
-}
-
-// The next word, which has to be one of two.
-fn choice(text: &[u8], at: usize, first: &[u8], second: &[u8], why: Why) -> Chosen
-    ensures { λ r. ⌜ r ≡ lines.choice (now (first .entry)) (now (second .entry)) why (now (text .entry)) at ⌝ }
-{
-    let from = run_end(text, at, Run::Blanks);
-    if text.len() <= from {
-        return Chosen::Wrong {
-            place: from,
-            why: Why::MissingWord,
-        };
-    }
-    let to = run_end(text, from, Run::Word);
-    if octets::same_bytes(&text[from..to], first) {
-        return Chosen::First(to);
-    }
-    if octets::same_bytes(&text[from..to], second) {
-        return Chosen::Second(to);
-    }
-    Chosen::Wrong { place: from, why }
 }
 
 // What was asked for, if nothing follows.
@@ -95,14 +69,38 @@ fn if_last(asked: Asked, text: &[u8], at: usize) -> Asked
     asked
 }
 
+// The number of the product that a word names, or 0.
+fn product_named(word: &[u8]) -> u8
+    ensures { λ r. ⌜ r ≡ lines.product-named (now (word .entry)) ⌝ }
+{
+    if octets::same_bytes(word, b"small") {
+        return 1;
+    }
+    if octets::same_bytes(word, b"large") {
+        return 2;
+    }
+    0
+}
+
 // power small|large
 fn power(text: &[u8], at: usize) -> Asked
     ensures { λ r. ⌜ r ≡ lines.power (now (text .entry)) at ⌝ }
 {
-    match choice(text, at, b"small", b"large", Why::NotAProduct) {
-        Chosen::First(next) => if_last(Asked::Power(1), text, next),
-        Chosen::Second(next) => if_last(Asked::Power(2), text, next),
-        Chosen::Wrong { place, why } => Asked::Wrong { place, why },
+    match next_word(text, at) {
+        NextWord::Missing(place) => Asked::Wrong {
+            place,
+            why: Why::MissingWord,
+        },
+        NextWord::Is { from, to } => {
+            let product = product_named(&text[from..to]);
+            if product == 0 {
+                return Asked::Wrong {
+                    place: from,
+                    why: Why::NotAProduct,
+                };
+            }
+            if_last(Asked::Power(product), text, to)
+        }
     }
 }
 
@@ -110,9 +108,21 @@ fn power(text: &[u8], at: usize) -> Asked
 fn on_or_off(text: &[u8], class: u16, number: u16, alarm: u8, at: usize) -> Asked
     ensures { λ r. ⌜ r ≡ lines.on-or-off (now (text .entry)) class number alarm at ⌝ }
 {
-    match choice(text, at, b"on", b"off", Why::NotOnOrOff) {
-        Chosen::First(next) => {
-            let on = true;
+    match next_word(text, at) {
+        NextWord::Missing(place) => Asked::Wrong {
+            place,
+            why: Why::MissingWord,
+        },
+        NextWord::Is { from, to } => {
+            let word = &text[from..to];
+            let on = octets::same_bytes(word, b"on");
+            let off = octets::same_bytes(word, b"off");
+            if !(on | off) {
+                return Asked::Wrong {
+                    place: from,
+                    why: Why::NotOnOrOff,
+                };
+            }
             if_last(
                 Asked::Alarm {
                     class,
@@ -121,23 +131,9 @@ fn on_or_off(text: &[u8], class: u16, number: u16, alarm: u8, at: usize) -> Aske
                     on,
                 },
                 text,
-                next,
+                to,
             )
         }
-        Chosen::Second(next) => {
-            let on = false;
-            if_last(
-                Asked::Alarm {
-                    class,
-                    number,
-                    alarm,
-                    on,
-                },
-                text,
-                next,
-            )
-        }
-        Chosen::Wrong { place, why } => Asked::Wrong { place, why },
     }
 }
 
@@ -222,18 +218,16 @@ fn call_of(word: &[u8]) -> Call
 fn read_text(text: &[u8], bytes: &mut [u8]) -> Asked
     ensures { λ r. ⌜ Gives (lines.read-text (length (now (bytes .entry))) (now (text .entry))) r (now (bytes .entry)) (now (bytes .exit)) ⌝ }
 {
-    let from = run_end(text, 0, Run::Blanks);
-    if text.len() <= from {
-        return Asked::Nothing;
-    }
-    let to = run_end(text, from, Run::Word);
-    match call_of(&text[from..to]) {
-        Call::Power => power(text, to),
-        Call::Report => report(text, to, bytes),
-        Call::Alarm => alarm(text, to),
-        Call::Upload => if_last(Asked::Upload, text, to),
-        Call::Alarms => if_last(Asked::Alarms, text, to),
-        Call::Other => message(text, from, bytes),
+    match next_word(text, 0) {
+        NextWord::Missing(_) => Asked::Nothing,
+        NextWord::Is { from, to } => match call_of(&text[from..to]) {
+            Call::Power => power(text, to),
+            Call::Report => report(text, to, bytes),
+            Call::Alarm => alarm(text, to),
+            Call::Upload => if_last(Asked::Upload, text, to),
+            Call::Alarms => if_last(Asked::Alarms, text, to),
+            Call::Other => message(text, from, bytes),
+        },
     }
 }
 

@@ -10,14 +10,15 @@ use lib.Seq.{drop-cons}
 use lib.Dec.{ltb, leb}
 use borrow.Author.Tests.{lt-leb}
 use Rattle.rules.proofs.Laws.{cases, lt-ltb, le-ltb, le-leb, leb-le}
-use Rattle.script_values.specs.declared.Run.the-variants.{Blanks}
 use Rattle.script_values.specs.declared.Why.{Why}
 use Rattle.script_values.specs.declared.Why.the-variants as why
+use Rattle.script_values.specs.declared.NextWord.{NextWord}
+use Rattle.script_values.specs.declared.NextWord.the-variants as word
 use Rattle.script_values.specs.declared.Number.{Number}
 use Rattle.script_values.specs.declared.Number.the-variants as number
 use Rattle.script_values.specs.declared.Three.the-variants as three
-use Rattle.script_values.specs.Runs.{digit-value, run-end, word-at}
-use Rattle.script_values.specs.Numbers.{digits-from, digits-at, hex-marked, number-in, number-from, next-number, three-numbers}
+use Rattle.script_values.specs.Runs.{digit-value, part}
+use Rattle.script_values.specs.Numbers.{digits-from, digits-at, hex-marked, number-in, number-of, next-number, three-numbers}
 
 -- a number of 16 bits and a base have a product that is far from 32 bits
 pub product-fits : (value base : ℕ) → value < 65536 → base ≤ 16 → value * base < 1048576
@@ -70,16 +71,13 @@ module _ (base limit v n : ℕ) where
   digits-within place [] e = absurd (wrong-is-none place v n why.NotANumber e)
   digits-within place (c ∷ l) e = from-within 0 place (c ∷ l) (omega arith) e
 
-pub number-within : (limit : ℕ) (text : List ℕ) (at v n : ℕ) → next-number limit text at ≡ number.Is v n → v ≤ limit
-unfolding number-from number-in
-number-within limit text at v n e =
-    let from : ℕ = run-end Blanks text at in
-    let w : List ℕ = word-at text from in
-    cases (ltb from (length text))
-    (λ t. cases (hex-marked w)
-    (λ u. digits-within 16 limit v n (from + 2) (drop 2 w) (rw (t, u) at e))
-    (λ u. digits-within 10 limit v n from w (rw (t, u) at e)))
-    (λ t. absurd (wrong-is-none from v n why.MissingWord (rw t at e)))
+pub number-within : (limit : ℕ) (text : List ℕ) (v n : ℕ) (k : NextWord) → number-of limit text k ≡ number.Is v n → v ≤ limit
+unfolding number-in
+number-within limit text v n (word.Is from to) e =
+    cases (hex-marked (part text from to))
+    (λ u. digits-within 16 limit v n (from + 2) (drop 2 (part text from to)) (rw u at e))
+    (λ u. digits-within 10 limit v n from (part text from to) (rw u at e))
+number-within limit text v n (word.Missing place) e = absurd (wrong-is-none place v n why.MissingWord e)
 
 -- ---- three numbers
 

@@ -2,17 +2,18 @@
 use Prim.Native.Nat.{ℕ, _+_, _*_}
 use mathlib.Core.Bool.{Bool, cond}
 use mathlib.Core.List.{List, [], _∷_}
-use lib.ListN.{length, take, drop}
+use lib.ListN.{take, drop}
 use lib.Dec.{ltb, leb}
 use Rattle.rules.specs.Maps.{same}
-use Rattle.script_values.specs.declared.Run.the-variants.{Blanks}
+use Rattle.script_values.specs.declared.NextWord.{NextWord}
+use Rattle.script_values.specs.declared.NextWord.the-variants as word
 use Rattle.script_values.specs.declared.Why.the-variants as why
 use Rattle.script_values.specs.declared.Number.{Number}
 use Rattle.script_values.specs.declared.Number.the-variants as number
 use Rattle.script_values.specs.declared.Three.{Three}
 use Rattle.script_values.specs.declared.Three.the-variants as three
 use Rattle.script_values.specs.Texts.{spelt}
-use Rattle.script_values.specs.Runs.{digit-value, run-end, word-at}
+use Rattle.script_values.specs.Runs.{digit-value, part, next-word}
 
 -- digits one after another, behind those that gave a value: each must be a digit, and the value stay within the limit
 unfoldable pub digits-from : ℕ → ℕ → ℕ → ℕ → List ℕ → Number
@@ -36,14 +37,14 @@ hex-marked w = same (take 2 w) (spelt "0x")
 unfoldable pub number-in : ℕ → ℕ → List ℕ → Number
 number-in limit place w = cond (hex-marked w) (digits-at 16 limit (place + 2) (drop 2 w)) (digits-at 10 limit place w)
 
--- the number in the word that begins at a place or behind
-unfoldable pub number-from : ℕ → List ℕ → ℕ → Number
-number-from limit text from =
-    cond (ltb from (length text)) (number-in limit from (word-at text from)) (number.Wrong from why.MissingWord)
+-- the number that a word of a text holds
+abbrev pub number-of : ℕ → List ℕ → NextWord → Number
+number-of limit text (word.Is from to) = number-in limit from (part text from to)
+number-of limit text (word.Missing place) = number.Wrong place why.MissingWord
 
 -- the number in the next word
 abbrev pub next-number : ℕ → List ℕ → ℕ → Number
-next-number limit text at = number-from limit text (run-end Blanks text at)
+next-number limit text at = number-of limit text (next-word text at)
 
 -- what follows from a number
 abbrev pub with-number : Number → (ℕ → ℕ → Three) → Three
@@ -58,5 +59,5 @@ three-numbers text at =
     (λ number next. with-number (next-number 255 text next) (λ third next. three.Are class number third next)))
 
 unfoldable pub computing-numbers : ℕ
-unfolding digits-from digits-at number-in number-from three-numbers
+unfolding digits-from digits-at number-in three-numbers
 computing-numbers = 0

@@ -1,12 +1,14 @@
--- The bytes of a line: blanks, digits, and runs of bytes of one kind. A place is a column of the line, counted from 0.
+-- The bytes of a line: blanks, digits, runs of bytes of one kind, and words. A place is a column of the line, counted from 0.
 use Prim.Native.Nat.{ℕ, suc, _+_, _-_}
 use Prim.Native.Char.{code}
 use mathlib.Core.Bool.{Bool, not, _||_, cond}
 use mathlib.Core.List.{List, [], _∷_}
-use lib.ListN.{take, drop}
+use lib.ListN.{length, take, drop}
 use lib.Dec.{eqb, ltb, leb}
 use Rattle.script_values.specs.declared.Run.{Run}
 use Rattle.script_values.specs.declared.Run.the-variants.{Blanks, Word, Gaps, Code}
+use Rattle.script_values.specs.declared.NextWord.{NextWord}
+use Rattle.script_values.specs.declared.NextWord.the-variants as word
 
 -- a space, a tab or a carriage return
 unfoldable pub is-blank : ℕ → Bool
@@ -42,10 +44,18 @@ run-length k (c ∷ l) = cond (goes-on k c) (suc (run-length k l)) 0
 abbrev pub run-end : Run → List ℕ → ℕ → ℕ
 run-end k text at = at + run-length k (drop at text)
 
--- the word that begins at a place
-abbrev pub word-at : List ℕ → ℕ → List ℕ
-word-at text from = take (run-length Word (drop from text)) (drop from text)
+-- the bytes of a text from a place to another
+abbrev pub part : List ℕ → ℕ → ℕ → List ℕ
+part text from to = take (to - from) (drop from text)
+
+-- the word that begins at a place; at the end of the text, or behind it, one is missing
+unfoldable pub word-from : List ℕ → ℕ → NextWord
+word-from text from = cond (ltb from (length text)) (word.Is from (run-end Word text from)) (word.Missing from)
+
+-- the next word behind a place
+abbrev pub next-word : List ℕ → ℕ → NextWord
+next-word text at = word-from text (run-end Blanks text at)
 
 unfoldable pub computing-runs : ℕ
-unfolding is-blank is-gap digit-value goes-on run-length
+unfolding is-blank is-gap digit-value goes-on run-length word-from
 computing-runs = 0

@@ -2,7 +2,7 @@
 ghost use mathlib.Core.Path.{_≡_};
 ghost use Prim.Native.Nat.{_+_, _-_, _≤_};
 ghost use lib.ListN.{length, drop};
-ghost use Rattle.script_values.specs.Runs.{is-blank, is-gap, digit-value, goes-on, run-end};
+ghost use Rattle.script_values.specs.Runs.{is-blank, is-gap, digit-value, goes-on, run-end, next-word};
 ghost use Rattle.script_values.specs.Numbers.{digits-at, hex-marked, next-number, three-numbers};
 ghost use Rattle.script_values.specs.HexBytes.{Gives, hex-from};
 
@@ -28,6 +28,12 @@ pub enum Why {
     NotAProduct,
     // a byte for which the lent buffer has no room
     TooLong,
+}
+
+// The next word: from where to where, or where one is missing.
+pub enum NextWord {
+    Is { from: usize, to: usize },
+    Missing(usize),
 }
 
 // A number and where its word ends.
@@ -106,6 +112,18 @@ pub fn run_end(text: &[u8], at: usize, run: Run) -> usize
     i
 }
 
+// The next word behind a place.
+pub fn next_word(text: &[u8], at: usize) -> NextWord
+    ensures { λ r. ⌜ r ≡ next-word (now (text .entry)) at ⌝ }
+{
+    let from = run_end(text, at, Run::Blanks);
+    if text.len() <= from {
+        return NextWord::Missing(from);
+    }
+    let to = run_end(text, from, Run::Word);
+    NextWord::Is { from, to }
+}
+
 // The value of a hex digit, or 16 for another byte.
 pub fn digit(c: u8) -> u8
     ensures { λ r. ⌜ (r ≡ digit-value c) × (r ≤ 16) ⌝ }
@@ -180,19 +198,19 @@ fn hex_marked(text: &[u8], at: usize) -> bool
 fn number_at(text: &[u8], at: usize, limit: u16) -> Number
     ensures { λ r. ⌜ r ≡ next-number limit (now (text .entry)) at ⌝ }
 {
-    let from = run_end(text, at, Run::Blanks);
-    if text.len() <= from {
-        return Number::Wrong {
-            place: from,
+    match next_word(text, at) {
+        NextWord::Missing(place) => Number::Wrong {
+            place,
             why: Why::MissingWord,
-        };
+        },
+        NextWord::Is { from, to } => {
+            let word = &text[..to];
+            if hex_marked(word, from) {
+                return digits(word, from + 2, 16, limit);
+            }
+            digits(word, from, 10, limit)
+        }
     }
-    let to = run_end(text, from, Run::Word);
-    let word = &text[..to];
-    if hex_marked(word, from) {
-        return digits(word, from + 2, 16, limit);
-    }
-    digits(word, from, 10, limit)
 }
 
 // The three numbers behind a place.

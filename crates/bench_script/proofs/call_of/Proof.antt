@@ -1,73 +1,73 @@
-use Rattle.script_values.specs.Texts.{spelt}
 use mathlib.Core.Path.{sym, _∙_}
-use Rattle.bench_script.proofs.ChoiceLaws.{calls-power, calls-report, calls-alarm, calls-upload, calls-alarms, calls-other}
+use Rattle.script_values.specs.Texts.{spelt}
+use Rattle.bench_script.specs.Lines.{call-of}
 use borrow.Author.Needs.{needs}
 use Rattle.bench_script.proofs.call_of.Statement.{statement}
 use Rattle.bench_script.proofs.call_of.Tie as tie
 
 returns : tie.Need-returns
-unfolding spelt
-returns c =
-    calls-power (c .before .before .before .before .args .word .now)
-    (sym (c .before .same-bytes .ensures) ∙ c .if1 .taken)
+unfolding spelt call-of
+returns c = rw (sym (c .before .same-bytes .ensures) ∙ c .if1 .taken)
 
 returns-2 : tie.Need-returns-2
-unfolding spelt
+unfolding spelt call-of
 returns-2 c =
     let p = c .before .before .before in
-    calls-report (p .before .before .before .before .args .word .now)
-    (sym (p .before .same-bytes .ensures) ∙ p .if1 .left)
-    (sym (c .before .same-bytes2 .ensures) ∙ c .if2 .taken)
+    rw (sym (p .before .same-bytes .ensures) ∙ p .if1 .left, sym (c .before .same-bytes2 .ensures) ∙ c .if2 .taken)
 
 returns-3 : tie.Need-returns-3
-unfolding spelt
+unfolding spelt call-of
 returns-3 c =
     let q = c .before .before .before in
     let p = q .before .before .before in
-    calls-alarm (p .before .before .before .before .args .word .now)
-    (sym (p .before .same-bytes .ensures) ∙ p .if1 .left)
-    (sym (q .before .same-bytes2 .ensures) ∙ q .if2 .left)
-    (sym (c .before .same-bytes3 .ensures) ∙ c .if3 .taken)
+    rw (
+      sym (p .before .same-bytes .ensures) ∙ p .if1 .left,
+      sym (q .before .same-bytes2 .ensures) ∙ q .if2 .left,
+      sym (c .before .same-bytes3 .ensures) ∙ c .if3 .taken,
+    )
 
 returns-4 : tie.Need-returns-4
-unfolding spelt
+unfolding spelt call-of
 returns-4 c =
     let r = c .before .before .before in
     let q = r .before .before .before in
     let p = q .before .before .before in
-    calls-upload (p .before .before .before .before .args .word .now)
-    (sym (p .before .same-bytes .ensures) ∙ p .if1 .left)
-    (sym (q .before .same-bytes2 .ensures) ∙ q .if2 .left)
-    (sym (r .before .same-bytes3 .ensures) ∙ r .if3 .left)
-    (sym (c .before .same-bytes4 .ensures) ∙ c .if4 .taken)
+    rw (
+      sym (p .before .same-bytes .ensures) ∙ p .if1 .left,
+      sym (q .before .same-bytes2 .ensures) ∙ q .if2 .left,
+      sym (r .before .same-bytes3 .ensures) ∙ r .if3 .left,
+      sym (c .before .same-bytes4 .ensures) ∙ c .if4 .taken,
+    )
 
 returns-5 : tie.Need-returns-5
-unfolding spelt
+unfolding spelt call-of
 returns-5 c =
     let s = c .before .before .before in
     let r = s .before .before .before in
     let q = r .before .before .before in
     let p = q .before .before .before in
-    calls-alarms (p .before .before .before .before .args .word .now)
-    (sym (p .before .same-bytes .ensures) ∙ p .if1 .left)
-    (sym (q .before .same-bytes2 .ensures) ∙ q .if2 .left)
-    (sym (r .before .same-bytes3 .ensures) ∙ r .if3 .left)
-    (sym (s .before .same-bytes4 .ensures) ∙ s .if4 .left)
-    (sym (c .before .same-bytes5 .ensures) ∙ c .if5 .taken)
+    rw (
+      sym (p .before .same-bytes .ensures) ∙ p .if1 .left,
+      sym (q .before .same-bytes2 .ensures) ∙ q .if2 .left,
+      sym (r .before .same-bytes3 .ensures) ∙ r .if3 .left,
+      sym (s .before .same-bytes4 .ensures) ∙ s .if4 .left,
+      sym (c .before .same-bytes5 .ensures) ∙ c .if5 .taken,
+    )
 
 returns-6 : tie.Need-returns-6
-unfolding spelt
+unfolding spelt call-of
 returns-6 c =
     let s = c .before .before .before in
     let r = s .before .before .before in
     let q = r .before .before .before in
     let p = q .before .before .before in
-    calls-other (p .before .before .before .before .args .word .now)
-    (sym (p .before .same-bytes .ensures) ∙ p .if1 .left)
-    (sym (q .before .same-bytes2 .ensures) ∙ q .if2 .left)
-    (sym (r .before .same-bytes3 .ensures) ∙ r .if3 .left)
-    (sym (s .before .same-bytes4 .ensures) ∙ s .if4 .left)
-    (sym (c .before .same-bytes5 .ensures) ∙ c .if5 .left)
+    rw (
+      sym (p .before .same-bytes .ensures) ∙ p .if1 .left,
+      sym (q .before .same-bytes2 .ensures) ∙ q .if2 .left,
+      sym (r .before .same-bytes3 .ensures) ∙ r .if3 .left,
+      sym (s .before .same-bytes4 .ensures) ∙ s .if4 .left,
+      sym (c .before .same-bytes5 .ensures) ∙ c .if5 .left,
+    )
 
 pub call-of-spec : {M : Type 1} → statement M
 call-of-spec =

@@ -1,3 +1,4 @@
+use Rattle.script_values.specs.Runs.{next-word}
 use Rattle.script_values.proofs.NumberLaws.{number-within, first-wrong, second-wrong, third-wrong, none-wrong}
 use native.Mathlib.Omega.{arith}
 use mathlib.Core.Path.{sym, _∙_}
@@ -9,8 +10,8 @@ cast-t21 : tie.Need-cast-t21
 cast-t21 c =
     let j = c .before .before .before .before .before in
     let a = j .before .before .before .before .before .before .before .before .args in
-    let z = number-within 255 (a .text .now) (j .number .given .0 .1 .0) (c .before .value .given .0 .0) (c .before .value .given .0 .1 .0)
-    (sym (c .before .before .before .number-at3 .ensures) ∙ c .before .value .given .1) in
+    let z = number-within 255 (a .text .now) (c .before .value .given .0 .0) (c .before .value .given .0 .1 .0)
+    (next-word (a .text .now) (j .number .given .0 .1 .0)) (sym (c .before .before .before .number-at3 .ensures) ∙ c .before .value .given .1) in
     omega arith
 
 returns : tie.Need-returns

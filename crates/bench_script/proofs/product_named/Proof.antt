@@ -1,0 +1,34 @@
+use mathlib.Core.Path.{sym, _∙_}
+use Rattle.script_values.specs.Texts.{spelt}
+use Rattle.bench_script.specs.Lines.{product-named}
+use borrow.Author.Needs.{needs}
+use Rattle.bench_script.proofs.product_named.Statement.{statement}
+use Rattle.bench_script.proofs.product_named.Tie as tie
+
+returns : tie.Need-returns
+unfolding spelt product-named
+returns c = rw (sym (c .before .same-bytes .ensures) ∙ c .if1 .taken)
+
+returns-2 : tie.Need-returns-2
+unfolding spelt product-named
+returns-2 c =
+    let p = c .before .before .before in
+    rw (sym (p .before .same-bytes .ensures) ∙ p .if1 .left, sym (c .before .same-bytes2 .ensures) ∙ c .if2 .taken)
+
+returns-3 : tie.Need-returns-3
+unfolding spelt product-named
+returns-3 c =
+    let p = c .before .before .before in
+    rw (sym (p .before .same-bytes .ensures) ∙ p .if1 .left, sym (c .before .same-bytes2 .ensures) ∙ c .if2 .left)
+
+pub product-named-spec : {M : Type 1} → statement M
+product-named-spec =
+    tie.close
+    (tie.spec
+    (λ c. search needs)
+    (λ c κs. search needs)
+    returns
+    (λ c. search needs)
+    (λ c κs. search needs)
+    returns-2
+    returns-3)
