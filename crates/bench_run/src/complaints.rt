@@ -17,7 +17,7 @@ fn put_why(out: &mut [u8], at: usize, why: Why) -> usize {
         Why::MissingWord => put(out, at, b"a word is missing here"),
         Why::TooMuch => put(out, at, b"this is too much"),
         Why::NotOnOrOff => put(out, at, b"this is neither on nor off"),
-        Why::NotAProduct => put(out, at, b"this is neither small nor large"),
+        Why::NotAProduct => put(out, at, b"this is neither small, large nor meter"),
         Why::TooLong => put(out, at, b"there is no room for more bytes"),
     }
 }

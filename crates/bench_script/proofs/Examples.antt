@@ -17,6 +17,10 @@ large : read 48 (spelt "\tpower  large   # the larger product\r") ≡ (asked.Pow
 unfolding computing-lines
 large = refl
 
+meter : read 48 (spelt "power meter") ≡ (asked.Power 3, [])
+unfolding computing-lines
+meter = refl
+
 message : read 48 (spelt "0a_FF 1 2") ≡ (asked.Message 3, 0x0A ∷ 0xFF ∷ 0x12 ∷ [])
 unfolding computing-lines
 message = refl
@@ -102,3 +106,7 @@ neither-on-nor-off = refl
 not-a-product : read 48 (spelt "power smaller") ≡ (asked.Wrong 6 why.NotAProduct, [])
 unfolding computing-lines
 not-a-product = refl
+
+no-meters : read 48 (spelt "power meters") ≡ (asked.Wrong 6 why.NotAProduct, [])
+unfolding computing-lines
+no-meters = refl

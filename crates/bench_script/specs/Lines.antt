@@ -41,7 +41,8 @@ call-of w =
 unfoldable pub product-named : List ℕ → ℕ
 product-named w =
     cond (same w (spelt "small")) 1
-    (cond (same w (spelt "large")) 2 0)
+    (cond (same w (spelt "large")) 2
+    (cond (same w (spelt "meter")) 3 0))
 
 -- ---- calls
 
@@ -60,7 +61,7 @@ product-of text from to =
     cond (eqb (product-named (part text from to)) 0) (asked.Wrong from why.NotAProduct)
     (if-last (asked.Power (product-named (part text from to))) text to)
 
--- power small|large
+-- power small|large|meter
 unfoldable pub power : List ℕ → ℕ → Asked
 power text at = with-word (product-of text) (next-word text at)
 

@@ -19,7 +19,7 @@ ghost use Rattle.bench_script.specs.Lines as lines;
 pub enum Asked {
     // a blank line, or a comment
     Nothing,
-    // 1 for the small product, 2 for the large one
+    // 1 for the small product, 2 for the large one, 3 for the meter
     Power(u8),
     // so many bytes, the first ones of the lent buffer
     Message(usize),
@@ -79,10 +79,13 @@ fn product_named(word: &[u8]) -> u8
     if octets::same_bytes(word, b"large") {
         return 2;
     }
+    if octets::same_bytes(word, b"meter") {
+        return 3;
+    }
     0
 }
 
-// power small|large
+// power small|large|meter
 fn power(text: &[u8], at: usize) -> Asked
     ensures { λ r. ⌜ r ≡ lines.power (now (text .entry)) at ⌝ }
 {

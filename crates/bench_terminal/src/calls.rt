@@ -138,10 +138,13 @@ pub fn alarm(desk: &mut [u8], class: u16, number: u16, alarm: u8, on: bool, run:
     say(out, end, run)
 }
 
+// A product that is on, by its name; a number that no script asks for has none.
 fn put_fresh(out: &mut [u8], at: usize, product: u8) -> usize {
     match product {
         1 => put(out, at, b"power small\n  fresh: the small product is on\n"),
-        _ => put(out, at, b"power large\n  fresh: the large product is on\n"),
+        2 => put(out, at, b"power large\n  fresh: the large product is on\n"),
+        3 => put(out, at, b"power meter\n  fresh: the meter product is on\n"),
+        _ => put(out, at, b"power\n  fresh: the product is on\n"),
     }
 }
 
@@ -152,7 +155,7 @@ fn put_power(out: &mut [u8], at: usize, product: u8, o: Started) -> usize {
     }
 }
 
-// Powers a product on, 1 small or 2 large.
+// Powers a product on: 1 small, 2 large, 3 meter.
 pub fn power(desk: &mut [u8], product: u8, run: Run) -> Run {
     let mut page = [0u8; 256];
     let out: &mut [u8] = &mut page;

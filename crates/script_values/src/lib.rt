@@ -24,7 +24,7 @@ pub enum Why {
     TooMuch,
     // neither `on` nor `off`
     NotOnOrOff,
-    // neither `small` nor `large`
+    // neither `small`, `large` nor `meter`
     NotAProduct,
     // a byte for which the lent buffer has no room
     TooLong,

@@ -18,8 +18,24 @@ returns-2 c =
 returns-3 : tie.Need-returns-3
 unfolding spelt product-named
 returns-3 c =
-    let p = c .before .before .before in
-    rw (sym (p .before .same-bytes .ensures) ∙ p .if1 .left, sym (c .before .same-bytes2 .ensures) ∙ c .if2 .left)
+    let q = c .before .before .before in
+    let p = q .before .before .before in
+    rw (
+      sym (p .before .same-bytes .ensures) ∙ p .if1 .left,
+      sym (q .before .same-bytes2 .ensures) ∙ q .if2 .left,
+      sym (c .before .same-bytes3 .ensures) ∙ c .if3 .taken,
+    )
+
+returns-4 : tie.Need-returns-4
+unfolding spelt product-named
+returns-4 c =
+    let q = c .before .before .before in
+    let p = q .before .before .before in
+    rw (
+      sym (p .before .same-bytes .ensures) ∙ p .if1 .left,
+      sym (q .before .same-bytes2 .ensures) ∙ q .if2 .left,
+      sym (c .before .same-bytes3 .ensures) ∙ c .if3 .left,
+    )
 
 pub product-named-spec : {M : Type 1} → statement M
 product-named-spec =
@@ -31,4 +47,7 @@ product-named-spec =
     (λ c. search needs)
     (λ c κs. search needs)
     returns-2
-    returns-3)
+    (λ c. search needs)
+    (λ c κs. search needs)
+    returns-3
+    returns-4)
