@@ -1,9 +1,10 @@
-//! The catalogues of the two products: which classes there are, which
+//! The catalogues of the three products: which classes there are, which
 //! attributes they have, and which contents are legal.
 //!
 //! Large has everything that Small has and adds attributes at the end of three
 //! classes. So each class has one list of attributes, Large's, and Small sees
-//! the beginning of it.
+//! the beginning of it. Meter has two of the classes, and of the UNI's list
+//! some of what Small sees.
 
 /// The most attributes' bytes a place can hold is that of a bridge: its number,
 /// its profile (class 45) and its configuration (class 46).
@@ -27,14 +28,21 @@ pub enum Product {
     Small,
     /// Four Ethernet UNIs, the longer lists of attributes.
     Large,
+    /// One Ethernet UNI with some of Small's attributes, and no bridges. The
+    /// exchange can neither create nor delete nor set anything.
+    Meter,
 }
 
 impl Product {
+    /// The products, by their numbers.
+    pub const ALL: [Product; 3] = [Product::Small, Product::Large, Product::Meter];
+
     /// The product with this number, if there is one.
     pub fn from_number(number: u8) -> Option<Product> {
         match number {
             1 => Some(Product::Small),
             2 => Some(Product::Large),
+            3 => Some(Product::Meter),
             _ => None,
         }
     }
@@ -44,15 +52,35 @@ impl Product {
         match self {
             Product::Small => 1,
             Product::Large => 2,
+            Product::Meter => 3,
         }
     }
 
     /// How many Ethernet UNIs the product has.
     pub fn unis(self) -> usize {
         match self {
-            Product::Small => 1,
+            Product::Small | Product::Meter => 1,
             Product::Large => MOST_UNIS,
         }
+    }
+
+    /// Whether the class is in the product's catalogue.
+    pub fn has(self, class: Class) -> bool {
+        match self {
+            Product::Small | Product::Large => true,
+            Product::Meter => matches!(class, Class::OntData | Class::EthernetUni),
+        }
+    }
+
+    /// The class with this number, if it is in the product's catalogue.
+    pub fn class(self, number: u16) -> Option<Class> {
+        Class::from_number(number).filter(|&class| self.has(class))
+    }
+
+    /// Whether Set is for the product's classes. Where it isn't, attributes
+    /// keep the right to be written, which MIB reset makes use of.
+    pub fn takes_sets(self) -> bool {
+        self != Product::Meter
     }
 
     /// The place of the Ethernet UNI with this instance number among the
@@ -87,7 +115,7 @@ impl Class {
         Class::PortConfiguration,
     ];
 
-    /// The class with this number, if it is in the catalogues.
+    /// The class with this number, if it is in some product's catalogue.
     pub fn from_number(number: u16) -> Option<Class> {
         match number {
             2 => Some(Class::OntData),
@@ -110,19 +138,30 @@ impl Class {
         }
     }
 
-    /// The attributes that instances of the class have in this product; their
-    /// numbers are 1, 2 and so on.
+    /// The attributes that instances of the class have in this product, by
+    /// ascending numbers. If the product hasn't the class, there is no instance
+    /// to have any, and the list means nothing.
     pub fn attributes(self, product: Product) -> &'static [Attribute] {
         let all = self.attributes_of_any_product();
         match (product, self) {
             (Product::Small, Class::EthernetUni) => &all[..6],
             (Product::Small, Class::BridgeConfiguration) => &all[..6],
             (Product::Small, Class::PortConfiguration) => &all[..8],
+            (Product::Meter, Class::EthernetUni) => &METER_UNI,
             _ => all,
         }
     }
 
-    /// The attributes that instances of the class have in some product.
+    /// The attributes that instances of the class have only in other products.
+    pub fn attributes_elsewhere(self, product: Product) -> &'static [Attribute] {
+        match (product, self) {
+            (Product::Meter, Class::EthernetUni) => &NOT_OF_METER_UNI,
+            _ => &self.attributes_of_any_product()[self.attributes(product).len()..],
+        }
+    }
+
+    /// The attributes that instances of the class have in some product; their
+    /// numbers are 1, 2 and so on.
     pub fn attributes_of_any_product(self) -> &'static [Attribute] {
         match self {
             Class::OntData => &ONT_DATA,
@@ -323,7 +362,7 @@ pub fn mask_of(attributes: &[Attribute]) -> u16 {
 
 /// The mask of those attributes whose content in the record isn't legal.
 ///
-/// A product's record has room for attributes that only the other product has;
+/// A product's record has room for attributes that only other products have;
 /// there nothing but zeros is legal. A Create in Small carries such bytes too,
 /// and the same rule refuses them.
 pub fn bad_contents(
@@ -332,11 +371,10 @@ pub fn bad_contents(
     record: &[u8],
     exists: &impl Fn(Class, u16) -> bool,
 ) -> u16 {
-    let all = class.attributes_of_any_product();
-    let (supported, others) = all.split_at(class.attributes(product).len());
+    let ruled = |attribute: &&Attribute| !matches!(attribute.rule, Rule::Any);
     let mut bad = 0;
     // What has no rule is passed over before its content is looked for.
-    for attribute in supported.iter().filter(|attribute| !matches!(attribute.rule, Rule::Any)) {
+    for attribute in class.attributes(product).iter().filter(ruled) {
         let legal = match attribute.stored_in(record) {
             Some(content) => attribute.is_legal(content, record, exists),
             None => true,
@@ -345,7 +383,7 @@ pub fn bad_contents(
             bad |= attribute.bit();
         }
     }
-    for attribute in others {
+    for attribute in class.attributes_elsewhere(product) {
         if attribute.stored_in(record).is_some_and(|content| content.iter().any(|&byte| byte != 0))
         {
             bad |= attribute.bit();
@@ -381,6 +419,24 @@ static ETHERNET_UNI: [Attribute; 13] = [
     Attribute::stored(11, 1, RW, 12).ruled(Rule::Range(0, 2)).first(2),
     Attribute::stored(12, 1, RW, 13).ruled(ZERO_OR_ONE),
     Attribute::stored(13, 1, RW, 14),
+];
+
+/// What Meter has of a UNI, under the numbers and with the places that Small
+/// and Large know: the two types and the two states.
+static METER_UNI: [Attribute; 4] =
+    [ETHERNET_UNI[0], ETHERNET_UNI[1], ETHERNET_UNI[4], ETHERNET_UNI[5]];
+
+/// What Meter hasn't.
+static NOT_OF_METER_UNI: [Attribute; 9] = [
+    ETHERNET_UNI[2],
+    ETHERNET_UNI[3],
+    ETHERNET_UNI[6],
+    ETHERNET_UNI[7],
+    ETHERNET_UNI[8],
+    ETHERNET_UNI[9],
+    ETHERNET_UNI[10],
+    ETHERNET_UNI[11],
+    ETHERNET_UNI[12],
 ];
 
 static BRIDGE_PROFILE: [Attribute; 7] = [
@@ -480,8 +536,38 @@ mod tests {
     }
 
     #[test]
+    fn products_have_their_numbers() {
+        let all: Vec<Product> = (0..=255).filter_map(Product::from_number).collect();
+        assert_eq!(all, Product::ALL);
+        assert_eq!(Product::ALL.map(Product::number), [1, 2, 3]);
+    }
+
+    #[test]
+    fn every_attribute_is_in_a_product_or_only_elsewhere() {
+        for product in Product::ALL {
+            let classes = Class::UPLOADED.into_iter().chain([Class::OntData]);
+            for class in classes.filter(|&class| product.has(class)) {
+                let there = class.attributes(product);
+                let elsewhere = class.attributes_elsewhere(product);
+                let all = class.attributes_of_any_product();
+                assert_eq!(there.len() + elsewhere.len(), all.len());
+                assert_eq!(mask_of(there) | mask_of(elsewhere), mask_of(all));
+            }
+        }
+    }
+
+    #[test]
+    fn meter_has_ont_data_and_four_attributes_of_a_uni() {
+        let meter = Product::Meter;
+        let known: Vec<u16> = (0..=0xFFFF).filter(|&class| meter.class(class).is_some()).collect();
+        assert_eq!(known, [2, 11]);
+        assert_eq!(mask_of(Class::OntData.attributes(meter)), 0x8000);
+        assert_eq!(mask_of(Class::EthernetUni.attributes(meter)), 0xCC00);
+    }
+
+    #[test]
     fn first_contents_are_legal() {
-        for product in [Product::Small, Product::Large] {
+        for product in Product::ALL {
             let mut record = [0xFF; UNI_SIZE];
             for attribute in Class::EthernetUni.attributes(product) {
                 attribute.write_first(&mut record);

@@ -12,17 +12,34 @@ use crate::catalogue::{Product, BRIDGE_SIZE, FIRST_UNI, PORT_SIZE, TP_TYPE_UNI, 
 /// The TPType of a port whose TPPointer isn't judged.
 const TP_TYPE_ANY: u8 = 2;
 
-/// Whether the contents of an Ethernet UNI are legal.
-pub fn is_uni_legal(product: Product, record: &[u8; UNI_SIZE]) -> bool {
-    let [_, _, _, loopback, admin, operational, large_only @ ..] = *record;
-    let legal = matches!(loopback, 0 | 3) && admin | operational <= 1;
+/// Whether the contents of a product's Ethernet UNIs are legal. The product is
+/// asked for once, not for each of them.
+pub fn are_unis_legal(product: Product, records: &[[u8; UNI_SIZE]]) -> bool {
     match product {
-        Product::Small => legal && large_only == [0; 9],
-        Product::Large => {
-            let [_, _, _, dte_dce, _, _, bridged_or_ip, arc, _] = large_only;
-            legal && dte_dce <= 2 && bridged_or_ip <= 2 && arc <= 1
-        }
+        Product::Small => records.iter().all(is_small_uni_legal),
+        Product::Large => records.iter().all(is_large_uni_legal),
+        Product::Meter => records.iter().all(is_meter_uni_legal),
     }
+}
+
+fn is_small_uni_legal(record: &[u8; UNI_SIZE]) -> bool {
+    let [_, _, _, loopback, admin, operational, large_only @ ..] = *record;
+    matches!(loopback, 0 | 3) && admin | operational <= 1 && large_only == [0; 9]
+}
+
+fn is_large_uni_legal(record: &[u8; UNI_SIZE]) -> bool {
+    let [_, _, _, loopback, admin, operational, large_only @ ..] = *record;
+    let [_, _, _, dte_dce, _, _, bridged_or_ip, arc, _] = large_only;
+    matches!(loopback, 0 | 3)
+        && admin | operational <= 1
+        && dte_dce <= 2
+        && bridged_or_ip <= 2
+        && arc <= 1
+}
+
+fn is_meter_uni_legal(record: &[u8; UNI_SIZE]) -> bool {
+    let [_, _, detection, loopback, admin, operational, large_only @ ..] = *record;
+    detection | loopback == 0 && admin | operational <= 1 && large_only == [0; 9]
 }
 
 /// Whether the contents of a bridge's profile are legal.
@@ -36,7 +53,7 @@ pub fn is_profile_legal(record: &[u8; BRIDGE_SIZE]) -> bool {
 }
 
 /// Whether the contents of a bridge's configuration are legal: they have no
-/// rule, but Small hasn't all of them.
+/// rule, but only Large has all of them.
 pub fn is_configuration_legal(product: Product, record: &[u8; BRIDGE_SIZE]) -> bool {
     let [.., hello_high, hello_low, forward_high, forward_low] = *record;
     product == Product::Large || [hello_high, hello_low, forward_high, forward_low] == [0; 4]
@@ -54,7 +71,7 @@ pub fn is_port_legal(product: Product, record: &[u8; PORT_SIZE]) -> bool {
         _ => false,
     };
     let highest_lan_fcs = match product {
-        Product::Small => 0,
+        Product::Small | Product::Meter => 0,
         Product::Large => 1,
     };
     is_point_legal
@@ -67,16 +84,14 @@ pub fn is_port_legal(product: Product, record: &[u8; PORT_SIZE]) -> bool {
 #[cfg(test)]
 mod tests {
     use super::*;
-    use crate::catalogue::{bad_contents, Class, Rule, Source};
+    use crate::catalogue::{bad_contents, mask_of, Class, Rule, Source};
 
-    const PRODUCTS: [Product; 2] = [Product::Small, Product::Large];
-
-    /// Records whose contents are legal in both products.
+    /// Records whose contents are legal in every product that has the class.
     fn legal_records(class: Class) -> Vec<Vec<u8>> {
         let mut bridge = vec![0; BRIDGE_SIZE];
         bridge[..13].copy_from_slice(&[0, 9, 1, 1, 0, 0x80, 0, 0x14, 0, 2, 0, 0x0F, 0]);
         match class {
-            Class::EthernetUni => vec![vec![0x16, 0, 0, 3, 1, 0, 0, 0, 0, 0, 0, 0, 0, 0, 0]],
+            Class::EthernetUni => vec![vec![0x16, 0, 0, 0, 1, 0, 0, 0, 0, 0, 0, 0, 0, 0, 0]],
             Class::PortConfiguration => vec![
                 vec![0, 4, 0, 9, 1, TP_TYPE_UNI, 1, 1, 0, 128, 0, 1, 0, 1, 0],
                 vec![0, 4, 0, 9, 1, TP_TYPE_ANY, 7, 7, 0, 128, 0, 1, 0, 1, 0],
@@ -88,7 +103,7 @@ mod tests {
     fn is_legal(product: Product, class: Class, record: &[u8]) -> bool {
         match class {
             Class::OntData => unreachable!("the counter has no rule"),
-            Class::EthernetUni => is_uni_legal(product, record.try_into().unwrap()),
+            Class::EthernetUni => are_unis_legal(product, &[record.try_into().unwrap()]),
             Class::BridgeProfile => is_profile_legal(record.try_into().unwrap()),
             Class::BridgeConfiguration => {
                 is_configuration_legal(product, record.try_into().unwrap())
@@ -133,8 +148,8 @@ mod tests {
     #[test]
     fn every_short_content_is_judged_as_by_the_lists() {
         for (product, class) in pairs() {
-            let supported = class.attributes(product).len();
-            for (index, attribute) in class.attributes_of_any_product().iter().enumerate() {
+            let supported = mask_of(class.attributes(product));
+            for attribute in class.attributes_of_any_product() {
                 let Source::Stored(offset) = attribute.source else { continue };
                 if attribute.size > 2 {
                     continue;
@@ -143,7 +158,8 @@ mod tests {
                 for legal in legal_records(class) {
                     let tally = judge_all(product, class, &legal, offset, attribute.size);
                     assert!(tally.legal > 0);
-                    assert!(tally.illegal > 0 || (index < supported && !refuses));
+                    let is_there = supported & attribute.bit() != 0;
+                    assert!(tally.illegal > 0 || (is_there && !refuses));
                 }
             }
         }
@@ -151,7 +167,7 @@ mod tests {
 
     #[test]
     fn only_a_port_on_a_uni_names_one_of_the_product() {
-        for product in PRODUCTS {
+        for product in Product::ALL.into_iter().filter(|it| it.has(Class::PortConfiguration)) {
             let [on_uni, on_any] = &legal_records(Class::PortConfiguration)[..] else { panic!() };
             let judge = |legal| judge_all(product, Class::PortConfiguration, legal, 6, 2);
             assert_eq!(judge(on_uni).legal, product.unis());
@@ -179,8 +195,12 @@ mod tests {
         }
     }
 
+    /// The products, each with the classes that it has and uploads show.
     fn pairs() -> impl Iterator<Item = (Product, Class)> {
-        PRODUCTS.into_iter().flat_map(|product| Class::UPLOADED.map(|class| (product, class)))
+        Product::ALL
+            .into_iter()
+            .flat_map(|product| Class::UPLOADED.map(|class| (product, class)))
+            .filter(|&(product, class)| product.has(class))
     }
 
     /// Numbers that look random and are the same in every run.

@@ -1,6 +1,7 @@
-//! An ordinary implementation of the OMCI management engine of document 01.
+//! An ordinary implementation of the OMCI management engine of document 01,
+//! with the product Meter of document 02 (ticket 10).
 //!
-//! It is written from the document alone, in safe Rust, and shares no code
+//! It is written from the documents alone, in safe Rust, and shares no code
 //! with the proved engine. It serves two ends: the differential tests drive
 //! both engines with the same calls and compare what comes back, and it is the
 //! baseline when the speed of the proved engine is measured.
@@ -40,8 +41,8 @@ pub const ANSWERED: u8 = 0;
 /// What a report returns when it was carried out but sends no message.
 pub const QUIET: u8 = 255;
 
-/// Writes the fresh state of a product (1 Small, 2 Large) into the store,
-/// whatever the store held before.
+/// Writes the fresh state of a product (1 Small, 2 Large, 3 Meter) into the
+/// store, whatever the store held before.
 pub fn power_on(store: &mut [u8], product: u8) -> u8 {
     number_of(Store::fresh(store, product).map(|_| Sent::Message))
 }

@@ -55,7 +55,7 @@ pub fn alarm(
 }
 
 fn find(store: &Store, class_id: u16, instance: u16) -> Result<(Class, usize), Drop> {
-    let class = Class::from_number(class_id).ok_or(Drop::NoSuchInstance)?;
+    let class = store.product().class(class_id).ok_or(Drop::NoSuchInstance)?;
     let index = store.table().find(class, instance).ok_or(Drop::NoSuchInstance)?;
     Ok((class, index))
 }

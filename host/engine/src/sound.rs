@@ -1,7 +1,7 @@
 //! The soundness test: does a store encode a state, and as this engine would?
 
 use crate::catalogue::{Class, Product, MOST_UNIS, PORT_SIZE};
-use crate::legal::{is_configuration_legal, is_port_legal, is_profile_legal, is_uni_legal};
+use crate::legal::{are_unis_legal, is_configuration_legal, is_port_legal, is_profile_legal};
 use crate::message::{check_head, number_at};
 use crate::store::{Bitmaps, View};
 use crate::table::{Table, PLACES, PLACE_SIZE};
@@ -54,14 +54,15 @@ fn is_table_sound(table: &Table) -> bool {
     table.places_in_use() <= PLACES
         && is_zero(table.unused_places())
         && is_zero(table.unused_unis())
-        && are_unis_sound(table)
+        && are_unis_legal(table.product(), table.unis())
         && are_bridges_sound(table)
         && are_ports_sound(table)
+        && has_only_known_classes(table)
 }
 
-fn are_unis_sound(table: &Table) -> bool {
-    let product = table.product();
-    table.unis().iter().all(|uni| is_uni_legal(product, uni))
+/// Meter has as many places as the others, but no class to use them.
+fn has_only_known_classes(table: &Table) -> bool {
+    table.product() != Product::Meter || table.places_in_use() == 0
 }
 
 /// Legal contents, by ascending numbers: the lowest that may follow is one
@@ -114,7 +115,10 @@ mod tests {
     use crate::catalogue::bad_contents;
     use crate::store::{Store, SIZE};
     use crate::table;
-    use exchange::{Maker, DELETE, SET, UPLOAD};
+    use crate::Test::Soundness;
+    use exchange::{Maker, DELETE, GET_ALL_ALARMS, SET, UPLOAD};
+
+    const TABLE_AT: usize = SIZE - 2 * table::SIZE;
 
     /// The same without short cuts: by the catalogue's lists, one thing after
     /// another, and the frozen table in any case.
@@ -135,7 +139,10 @@ mod tests {
         table.places_in_use() <= PLACES
             && is_zero(table.unused_places())
             && is_zero(table.unused_unis())
-            && Class::UPLOADED.into_iter().all(|class| are_instances_sound(table, class))
+            && Class::UPLOADED.into_iter().all(|class| {
+                let is_known = table.product().has(class) || table.count(class) == 0;
+                is_known && are_instances_sound(table, class)
+            })
             && table.ports().iter().all(|place| is_zero(&place[PORT_SIZE..]))
     }
 
@@ -154,11 +161,23 @@ mod tests {
     fn store_after(product: u8, commands: &[[u8; 48]]) -> Vec<u8> {
         let mut store = vec![0; SIZE];
         assert_eq!(crate::power_on(&mut store, product), 0);
+        send(&mut store, commands);
+        store
+    }
+
+    fn send(store: &mut [u8], commands: &[[u8; 48]]) {
         for command in commands {
             let mut reply = [0; 48];
-            assert_eq!(crate::handle(crate::Test::Soundness, &mut store, command, &mut reply), 0);
+            assert_eq!(crate::handle(Soundness, store, command, &mut reply), 0);
         }
-        store
+    }
+
+    fn report(store: &mut [u8], attribute: u8, content: u8) {
+        let mut reply = [0; 48];
+        let content = [content];
+        let number =
+            crate::report_attribute(Soundness, store, 11, 0x0101, attribute, &content, &mut reply);
+        assert_eq!(number, 0);
     }
 
     /// Fresh, with a few instances, with these frozen, and with a frozen table
@@ -178,6 +197,25 @@ mod tests {
         [store_after(product, &[]), some, frozen, store_after(product, &commands)]
     }
 
+    /// The same of a Meter, where only reports and walks change anything.
+    fn meter_stores() -> [Vec<u8>; 4] {
+        let mut maker = Maker::new(0);
+        let fresh = store_after(3, &[]);
+        let mut some = fresh.clone();
+        report(&mut some, 2, 0x31);
+        let mut frozen = some.clone();
+        let walks = [UPLOAD, GET_ALL_ALARMS].map(|number| maker.command(number, 2, 0, &[]));
+        send(&mut frozen, &walks);
+        let mut changed = frozen.clone();
+        report(&mut changed, 2, 0x32);
+        report(&mut changed, 6, 1);
+        [fresh, some, frozen, changed]
+    }
+
+    fn all_stores() -> impl Iterator<Item = Vec<u8>> {
+        stores(1).into_iter().chain(stores(2)).chain(meter_stores())
+    }
+
     fn judge(store: &mut [u8]) -> bool {
         let store = Store::trust(store).expect("a store with a product");
         let sound = is_sound(&store.view());
@@ -187,9 +225,8 @@ mod tests {
 
     #[test]
     fn changed_stores_are_judged_as_by_the_lists() {
-        const TABLE_AT: usize = SIZE - 2 * table::SIZE;
         let mut judged = [0; 2];
-        for mut store in stores(1).into_iter().chain(stores(2)) {
+        for mut store in all_stores() {
             assert!(judge(&mut store));
             // The product stays. A byte of the table is also changed in both.
             for at in 1..SIZE {
@@ -206,5 +243,45 @@ mod tests {
             }
         }
         assert!(judged.iter().all(|&count| count > 1000));
+    }
+
+    #[test]
+    fn stores_of_another_product_are_judged_as_by_the_lists() {
+        // Once the product is changed, a Small that has nothing but what a
+        // Meter has is a Meter, and any Meter a Small. A Large is neither: its
+        // UNIs begin with contents that the others don't have.
+        let mut sound = vec![];
+        for mut store in all_stores() {
+            let product = store[0];
+            for other in [1, 2, 3] {
+                store[0] = other;
+                if judge(&mut store) && other != product {
+                    sound.push((product, other));
+                }
+            }
+        }
+        let count = |pair| sound.iter().filter(|&&other| other == pair).count();
+        assert_eq!([count((1, 3)), count((3, 1))], [1, 4]);
+        assert_eq!([count((2, 1)), count((2, 3))], [0, 0]);
+    }
+
+    /// How many of these values a byte of a fresh Meter's store may have.
+    fn legal_values(at: usize, values: impl Iterator<Item = u8>) -> usize {
+        let mut store = store_after(3, &[]);
+        let legal = values.filter(|&value| {
+            store[at] = value;
+            judge(&mut store)
+        });
+        legal.count()
+    }
+
+    #[test]
+    fn a_meter_has_four_attributes_of_a_uni_and_uses_no_place() {
+        // The counter, the numbers of bridges and ports, the UNI, all the rest.
+        let first: [usize; 9] = std::array::from_fn(|at| legal_values(TABLE_AT + at, 0..=255));
+        assert_eq!(first, [256, 1, 1, 256, 256, 1, 1, 2, 2]);
+        for at in first.len()..table::SIZE {
+            assert_eq!(legal_values(TABLE_AT + at, [0, 1, 2, 0x80, 0xFF].into_iter()), 1);
+        }
     }
 }

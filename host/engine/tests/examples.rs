@@ -101,7 +101,7 @@ fn e11_whole_upload_of_a_fresh_small() {
 
 #[test]
 fn e12_get_of_the_counter() {
-    for product in [SMALL, LARGE] {
+    for product in [SMALL, LARGE, METER] {
         let mut bench = Bench::new(product);
         let mut command = vec![0x12, 0x34, 0x49, 0x0A, 0, 2, 0, 0, 0x80, 0];
         command.extend([0; 30]);

@@ -6,6 +6,8 @@ use bench::*;
 use ordinary_engine::Test::{LengthOnly, Soundness};
 use ordinary_engine::{handle, power_on, report_alarm, report_attribute, QUIET, STORE_SIZE};
 
+/// The products in which the exchange can create, delete and set; `meter.rs`
+/// is about the third.
 const BOTH: [u8; 2] = [SMALL, LARGE];
 
 #[test]
@@ -315,7 +317,7 @@ fn messages_are_dropped_in_order() {
     }
     assert_eq!(bench.store, before);
     let mut reply = [0xEE; 60];
-    bench.store[0] = 3;
+    bench.store[0] = 4;
     assert_eq!(handle(Soundness, &mut bench.store, &spoiled, &mut reply), 2);
     assert_eq!(handle(Soundness, &mut bench.store, &spoiled, &mut reply[..47]), 1);
     bench.store[0] = 1;
@@ -332,11 +334,14 @@ fn messages_are_dropped_in_order() {
 fn power_on_drops() {
     let mut store = vec![0xA5; STORE_SIZE + 9];
     assert_eq!(power_on(&mut store[..STORE_SIZE - 1], 9), 2);
-    assert_eq!(power_on(&mut store, 0), 12);
-    assert_eq!(power_on(&mut store, 3), 12);
+    for product in (4..=255).chain([0]) {
+        assert_eq!(power_on(&mut store, product), 12);
+    }
     assert!(store.iter().all(|&byte| byte == 0xA5));
-    assert_eq!(power_on(&mut store, 2), 0);
-    assert_eq!(store[STORE_SIZE..], [0xA5; 9]);
+    for product in [SMALL, LARGE, METER] {
+        assert_eq!(power_on(&mut store, product), 0);
+        assert_eq!(store[STORE_SIZE..], [0xA5; 9]);
+    }
 }
 
 #[test]

@@ -33,7 +33,7 @@ pub fn create(store: &mut Store, command: &Command) -> Contents {
 
 fn try_create(store: &mut Store, command: &Command) -> Result<(), CreateRefused> {
     let refused = |outcome| CreateRefused(outcome, 0);
-    let class = class_of(command, Class::is_created).map_err(refused)?;
+    let class = class_of(store, command, Class::is_created).map_err(refused)?;
     let table = store.table();
     if table.has(class, command.instance()) {
         return Err(refused(Outcome::Exists));
@@ -82,7 +82,7 @@ pub fn delete(store: &mut Store, command: &Command) -> Contents {
 }
 
 fn try_delete(store: &mut Store, command: &Command) -> Result<(), Outcome> {
-    let class = class_of(command, Class::is_created)?;
+    let class = class_of(store, command, Class::is_created)?;
     let index = find(store, class, command)?;
     store.table_mut().remove(class, index);
     store.count_change();
@@ -116,7 +116,7 @@ pub fn set(store: &mut Store, command: &Command) -> Contents {
 }
 
 fn try_set(store: &mut Store, command: &Command) -> Result<(), SetRefused> {
-    let class = class_of(command, |_| true)?;
+    let class = class_of(store, command, |_| store.product().takes_sets())?;
     let index = find(store, class, command)?;
     let mask = asked_mask(command)?;
     let attributes = class.attributes(store.product());
@@ -189,7 +189,7 @@ pub fn get(store: &Store, command: &Command) -> Contents {
 
 fn try_get(store: &Store, command: &Command) -> Result<Contents, (Outcome, u16)> {
     let refused = |outcome| (outcome, 0);
-    let class = class_of(command, |_| true).map_err(refused)?;
+    let class = class_of(store, command, |_| true).map_err(refused)?;
     let index = find(store, class, command).map_err(refused)?;
     let mask = asked_mask(command).map_err(refused)?;
     let attributes = class.attributes(store.product());
@@ -217,15 +217,20 @@ pub fn reset(store: &mut Store, command: &Command) -> Contents {
 }
 
 fn try_reset(store: &mut Store, command: &Command) -> Result<(), Outcome> {
-    let class = class_of(command, |class| class == Class::OntData)?;
+    let class = class_of(store, command, |class| class == Class::OntData)?;
     find(store, class, command)?;
     store.reset();
     Ok(())
 }
 
-/// The class that the command names, if the command is for it.
-fn class_of(command: &Command, is_for: impl Fn(Class) -> bool) -> Result<Class, Outcome> {
-    let class = Class::from_number(command.class_id()).ok_or(Outcome::UnknownClass)?;
+/// The class that the command names, if the product has it and the command is
+/// for it.
+fn class_of(
+    store: &Store,
+    command: &Command,
+    is_for: impl Fn(Class) -> bool,
+) -> Result<Class, Outcome> {
+    let class = store.product().class(command.class_id()).ok_or(Outcome::UnknownClass)?;
     if is_for(class) {
         Ok(class)
     } else {

@@ -8,6 +8,7 @@ use ordinary_engine::{handle, power_on, report_alarm, report_attribute, STORE_SI
 
 pub const SMALL: u8 = 1;
 pub const LARGE: u8 = 2;
+pub const METER: u8 = 3;
 
 #[derive(Clone)]
 pub struct Bench {
