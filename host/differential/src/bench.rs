@@ -1,6 +1,7 @@
 //! A pair of engines with the run that led to its state.
 
 use exchange::{Maker, BRIDGE, CREATE, DELETE, GET_ALL_ALARMS, SET, UPLOAD};
+use ordinary_engine::catalogue::Product;
 
 use crate::pair::{Pair, Seen};
 use crate::run::Failure;
@@ -30,17 +31,19 @@ impl Bench {
     pub fn furnished(product: u8) -> Result<Bench, Failure> {
         let mut bench = Bench::powered(product)?;
         let mut maker = Maker::new(0x5000);
+        if bench.takes_sets() {
+            for message in created(&mut maker) {
+                let seen = bench.call(Call::handle(&message))?;
+                bench.demand(seen.is_done(), "the furnishing must succeed")?;
+            }
+            for call in [
+                Call::report_attribute(46, 0x0300, 1, &[1, 2, 3, 4, 5, 6]),
+                Call::report_attribute(46, 0x0300, 3, &[8, 7, 6, 5, 4, 3, 2, 1]),
+            ] {
+                bench.taken(call)?;
+            }
+        }
         for call in [
-            Call::handle(&maker.command(SET, 11, 0x0101, &[0xB8, 0, 7, 8, 3, 1])),
-            Call::handle(&maker.bridge(0x0300)),
-            Call::handle(&maker.bridge(0x0002)),
-            Call::handle(&maker.bridge(0xFFFF)),
-            Call::handle(&maker.port(0x0009, 0x0300)),
-            Call::handle(&maker.port(0x0005, 0x0300)),
-            Call::handle(&maker.port(0x0700, 0xFFFF)),
-            Call::handle(&maker.command(DELETE, 45, 0xFFFF, &[])),
-            Call::report_attribute(46, 0x0300, 1, &[1, 2, 3, 4, 5, 6]),
-            Call::report_attribute(46, 0x0300, 3, &[8, 7, 6, 5, 4, 3, 2, 1]),
             Call::report_attribute(11, 0x0101, 2, &[0x31]),
             Call::report_alarm(11, 0x0101, 0, true),
             Call::handle(&maker.command(UPLOAD, 2, 0, &[])),
@@ -48,10 +51,19 @@ impl Bench {
             Call::report_attribute(11, 0x0101, 6, &[1]),
             Call::handle(&maker.command(CREATE, 45, 0x0044, &BRIDGE)),
         ] {
-            let seen = bench.call(call)?;
-            bench.demand(seen.is_taken(), "the furnishing must succeed")?;
+            bench.taken(call)?;
         }
         Ok(bench)
+    }
+
+    fn taken(&mut self, call: Call) -> Result<(), Failure> {
+        let seen = self.call(call)?;
+        self.demand(seen.is_taken(), "the furnishing must succeed")
+    }
+
+    /// Whether the product lets the exchange create, delete and set.
+    pub fn takes_sets(&self) -> bool {
+        self.pair.product().is_some_and(Product::takes_sets)
     }
 
     pub fn pair(&self) -> &Pair {
@@ -128,4 +140,18 @@ impl Bench {
     pub fn failure(&self, why: String) -> Failure {
         Failure { steps: self.steps.clone(), why }
     }
+}
+
+/// What a furnished bench's table gets from the exchange.
+fn created(maker: &mut Maker) -> [[u8; 48]; 8] {
+    [
+        maker.command(SET, 11, 0x0101, &[0xB8, 0, 7, 8, 3, 1]),
+        maker.bridge(0x0300),
+        maker.bridge(0x0002),
+        maker.bridge(0xFFFF),
+        maker.port(0x0009, 0x0300),
+        maker.port(0x0005, 0x0300),
+        maker.port(0x0700, 0xFFFF),
+        maker.command(DELETE, 45, 0xFFFF, &[]),
+    ]
 }

@@ -179,7 +179,7 @@ impl Generator {
     /// The next call.
     pub fn call(&mut self) -> Call {
         let call = if self.random.per_mille(1) {
-            let product = self.random.pick(&[0, 1, 2, 3, 255, 1, 2]);
+            let product = self.random.pick(&[0, 1, 2, 3, 4, 255, 1, 2, 3]);
             Call::power_on(product)
         } else if self.random.per_mille(self.mood.reports) {
             self.report()
@@ -279,7 +279,10 @@ impl Generator {
     }
 
     fn report(&mut self) -> Call {
-        let class = self.class(&[11, 11, 11, 46, 46]);
+        let class = match self.product {
+            Product::Meter => self.class(&[11, 11, 11, 11, 11, 46]),
+            _ => self.class(&[11, 11, 11, 46, 46]),
+        };
         let instance = self.instance(class);
         if self.random.per_mille(350) {
             let alarm = match self.random.below(10) {
@@ -373,10 +376,12 @@ impl Generator {
 
     fn right_message(&mut self) -> [u8; 48] {
         let mood = self.mood;
+        // Where they are always refused, these are sent less often.
+        let part = if self.product.takes_sets() { 1 } else { 4 };
         let shares = [
-            (CREATE, mood.creates),
-            (DELETE, mood.deletes),
-            (SET, mood.sets),
+            (CREATE, mood.creates / part),
+            (DELETE, mood.deletes / part),
+            (SET, mood.sets / part),
             (GET, mood.gets),
             (UPLOAD, mood.walks * 2 / 12),
             (UPLOAD_NEXT, mood.walks * 6 / 12),
@@ -402,10 +407,12 @@ impl Generator {
     }
 
     fn message_with(&mut self, number: u8) -> [u8; 48] {
-        let usual: &[u16] = match number {
-            CREATE | DELETE => &[45, 47],
-            SET => &[11, 11, 45, 47, 2],
-            GET => &CLASSES,
+        let usual: &[u16] = match (number, self.product) {
+            (CREATE | DELETE, Product::Meter) => &[2, 11, 45, 46, 47],
+            (CREATE | DELETE, _) => &[45, 47],
+            (SET, _) => &[11, 11, 45, 47, 2],
+            (GET, Product::Meter) => &[2, 11, 11, 11, 11, 45, 46, 47],
+            (GET, _) => &CLASSES,
             _ => &[2],
         };
         let class = self.class(usual);
@@ -492,8 +499,13 @@ impl Generator {
         index.to_be_bytes().to_vec()
     }
 
+    /// What the product has of a class. If it hasn't the class, then what Small
+    /// has of it: so what is refused looks as if it could be accepted.
     fn attributes(&self, class: u16) -> &'static [Attribute] {
-        Class::from_number(class).map_or(&[], |class| class.attributes(self.product))
+        let Some(class) = Class::from_number(class) else {
+            return &[];
+        };
+        class.attributes(if self.product.has(class) { self.product } else { Product::Small })
     }
 
     fn create_contents(&mut self, class: u16) -> Vec<u8> {
@@ -503,7 +515,7 @@ impl Generator {
         // Judged as a whole: most Creates are legal throughout.
         let legal = self.random.per_mille(self.mood.legal);
         let tp_type = self.random.pick(&[1, 1, 2]);
-        let supported = class.attributes(self.product).len();
+        let supported = self.attributes(class.number()).len();
         let mut contents = Vec::new();
         for (index, attribute) in class.attributes_of_any_product().iter().enumerate() {
             let edge = !legal && self.random.per_mille(200);

@@ -48,4 +48,7 @@ pub const ALL: [Kind; 17] = [
 
 const SMALL: u8 = 1;
 const LARGE: u8 = 2;
+const METER: u8 = 3;
+const PRODUCTS: [u8; 3] = [SMALL, LARGE, METER];
+/// Those in which the exchange can create, delete and set.
 const BOTH: [u8; 2] = [SMALL, LARGE];

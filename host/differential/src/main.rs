@@ -177,11 +177,20 @@ fn ends_in_fault(steps: &[Step]) -> bool {
 
 /// Runs a kind in this process.
 fn run_here(kind: &Kind, options: &Options) -> ExitCode {
-    match (kind.test)(options) {
+    let ended = (kind.test)(options);
+    let calls = pair::CALLED.load(Ordering::Relaxed);
+    let meter = pair::CALLED_AS_METER.load(Ordering::Relaxed);
+    match ended {
+        // Every kind goes over all products. Meter is easily left out, since it
+        // refuses much of what the others accept.
+        Ok(_) if meter == 0 => {
+            println!("{}: FAILED, no call was made of a Meter", kind.name);
+            ExitCode::from(FAILED)
+        }
         Ok(summary) => {
-            let calls = pair::CALLED.load(Ordering::Relaxed);
             println!(
-                "{}: passed, {summary} (the proved engine was called {calls} times)",
+                "{}: passed, {summary} (the proved engine was called {calls} times, {meter} of \
+                 them as a Meter)",
                 kind.name
             );
             ExitCode::SUCCESS

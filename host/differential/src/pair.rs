@@ -2,6 +2,7 @@
 
 use std::sync::atomic::{AtomicU64, Ordering};
 
+use ordinary_engine::catalogue::Product;
 use ordinary_engine::Test::Soundness;
 use ordinary_engine::{handle, power_on, report_alarm, report_attribute, STORE_SIZE};
 
@@ -19,8 +20,10 @@ const OTHER_SIZE: &str = "the run is of a store of another size";
 /// Pairs are numbered for the trace.
 static PAIRS: AtomicU64 = AtomicU64::new(0);
 
-/// How often the proved engine was called, for the summary.
+/// How often the proved engine was called, for the summary, and how often of
+/// these as a Meter.
 pub static CALLED: AtomicU64 = AtomicU64::new(0);
+pub static CALLED_AS_METER: AtomicU64 = AtomicU64::new(0);
 
 /// What came back from a call, after all comparisons held.
 #[derive(Clone, Debug, PartialEq, Eq)]
@@ -63,6 +66,8 @@ pub struct Pair {
     ordinary: Vec<u8>,
     /// Fills reply buffers and whatever lies behind the stores' lengths.
     noise: Random,
+    /// The product that was last powered on.
+    product: Option<Product>,
     damaged: bool,
     /// Of a damaged store: whether a call has shown it sound or unsound.
     shown_sound: Option<bool>,
@@ -79,6 +84,7 @@ impl Clone for Pair {
             proved: self.proved.clone(),
             ordinary: self.ordinary.clone(),
             noise: self.noise.clone(),
+            product: self.product,
             damaged: self.damaged,
             shown_sound: self.shown_sound,
             first: self.first.clone(),
@@ -97,6 +103,7 @@ impl Pair {
             proved: noise.bytes(proved_engine::store_size()),
             ordinary: noise.bytes(STORE_SIZE),
             noise,
+            product: None,
             damaged: false,
             shown_sound: None,
             first: None,
@@ -106,6 +113,11 @@ impl Pair {
     /// The proved engine's store.
     pub fn proved_store(&self) -> &[u8] {
         &self.proved
+    }
+
+    /// The product that was last powered on.
+    pub fn product(&self) -> Option<Product> {
+        self.product
     }
 
     /// Takes a step. An error says what doesn't hold.
@@ -244,10 +256,16 @@ impl Pair {
 
     fn call_proved(&mut self, call: &Call, blank: &[u8]) -> Result<Called, String> {
         CALLED.fetch_add(1, Ordering::Relaxed);
+        if self.product == Some(Product::Meter) {
+            CALLED_AS_METER.fetch_add(1, Ordering::Relaxed);
+        }
         let lent = lend(&self.proved, call, &mut self.noise);
         let left =
             proved::call(call, &lent, blank).map_err(|what| format!("proved engine: {what}"))?;
         let seen = Seen { number: left.number, reply: left.reply };
+        if let (Call::PowerOn { product, .. }, 0) = (call, seen.number) {
+            self.product = Product::from_number(*product);
+        }
         check_untouched(&seen, &lent, &left.store, self.proved.len(), blank)
             .map_err(|what| format!("proved engine: {what}"))?;
         Ok(Called { seen, changed: take_back(&mut self.proved, &left.store) })

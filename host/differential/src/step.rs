@@ -263,6 +263,7 @@ pub fn in_words(step: &Step) -> String {
             let name = match product {
                 1 => "Small",
                 2 => "Large",
+                3 => "Meter",
                 _ => "no product",
             };
             format!("power on {name}")

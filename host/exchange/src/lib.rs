@@ -11,7 +11,7 @@ pub const UPLOAD: u8 = 13;
 pub const UPLOAD_NEXT: u8 = 14;
 pub const RESET: u8 = 15;
 
-/// The classes of the catalogues.
+/// The classes of the catalogues. Meter has the first two.
 pub const CLASSES: [u16; 5] = [2, 11, 45, 46, 47];
 
 /// The contents of a legal Create of class 45.

@@ -10,7 +10,7 @@ use exchange::{
 };
 use ordinary_engine::catalogue::{Class, Rule, Source};
 
-use super::{Options, BOTH, LARGE, SMALL};
+use super::{Options, BOTH, LARGE, PRODUCTS, SMALL};
 use crate::bench::Bench;
 use crate::generator::Generator;
 use crate::pair::Seen;
@@ -26,7 +26,7 @@ fn last_command() -> [u8; 48] {
 /// States of all sorts: fresh, furnished, full, and at the end of random runs.
 pub fn reached(options: &Options) -> Result<Vec<Bench>, Failure> {
     let mut benches = Vec::new();
-    for product in BOTH {
+    for product in PRODUCTS {
         benches.push(Bench::powered(product)?);
         let mut bench = Bench::furnished(product)?;
         bench.call(Call::handle(&last_command()))?;
@@ -158,7 +158,7 @@ pub fn foreign(options: &Options) -> Result<String, Failure> {
     let benches = reached(options)?;
     let all_calls = calls();
     let calls: Vec<Step> = all_calls.iter().cloned().map(Step::from).collect();
-    let fresh: Vec<Bench> = BOTH.into_iter().map(Bench::powered).collect::<Result<_, _>>()?;
+    let fresh: Vec<Bench> = PRODUCTS.into_iter().map(Bench::powered).collect::<Result<_, _>>()?;
     let mut random = Random::part(options.seed, 0x666F_7265);
     let mut tally = Tally::default();
     for turn in 0..FOREIGN {
@@ -187,7 +187,7 @@ const FOREIGN: usize = 20_000;
 
 /// Power-on writes the same fresh state over whatever there was.
 fn power_on_over(fresh: &[Bench], replace: &Step) -> Result<(), Failure> {
-    for (product, bench) in BOTH.into_iter().zip(fresh) {
+    for (product, bench) in PRODUCTS.into_iter().zip(fresh) {
         let mut over = bench.clone();
         over.step(replace.clone())?;
         over.call(Call::power_on(product))?;
@@ -247,7 +247,7 @@ pub fn foreign_bytes(benches: &[Bench], random: &mut Random) -> Vec<u8> {
 /// whatever may have any content can be changed without being dropped.
 pub fn idle_bytes(_: &Options) -> Result<String, Failure> {
     let mut told = Vec::new();
-    for product in BOTH {
+    for product in PRODUCTS {
         // That an alarm walk was begun when there was no alarm can't be seen.
         let fresh = Bench::powered(product)?;
         told.push(count_idle_bytes(&fresh, 1, false)?);

@@ -6,17 +6,21 @@
 //! What can't be read out is made the same by a common last command: Get all
 //! alarms, which overwrites the remembered command, the frozen alarms and the
 //! alarm number.
+//!
+//! Commands move neither the counter of a Meter nor what else is written there
+//! only by Set and MIB reset. A state with such contents is a state all the
+//! same; it is reset first, and then reached again.
 
 use std::collections::BTreeMap;
 
 use exchange::{
-    command, Maker, ALARMS_NEXT, BRIDGE, CREATE, DELETE, GET, GET_ALL_ALARMS, SET, UPLOAD,
+    command, Maker, ALARMS_NEXT, BRIDGE, CREATE, DELETE, GET, GET_ALL_ALARMS, RESET, SET, UPLOAD,
     UPLOAD_NEXT,
 };
-use ordinary_engine::catalogue::{Attribute, Class};
+use ordinary_engine::catalogue::{Attribute, Class, Product};
 
 use super::damage::{foreign_bytes, reached};
-use super::Options;
+use super::{Options, LARGE, METER, SMALL};
 use crate::bench::Bench;
 use crate::pair::Seen;
 use crate::random::Random;
@@ -25,29 +29,25 @@ use crate::step::{Call, Step};
 
 /// How many foreign stores are tried; about a third of them are states.
 const FOREIGN: usize = 1_000;
-/// One in so many bytes of a reached store is damaged; which, the seed says.
+/// One in so many bytes of a reached store is damaged; which, the seed says. In
+/// a Meter's few bytes can change without being dropped, so all are damaged.
 const SHARE: usize = 3;
 const PLACES: usize = 40;
 
 pub fn test(options: &Options) -> Result<String, Failure> {
     let benches = reached(options)?;
     let mut random = Random::part(options.seed, 0x7265_6275);
-    let mut rebuilt = 0;
-    let mut skipped = 0;
+    let mut tally = Tally::default();
     let mut try_store = |bench: &Bench, damage: Step| -> Result<(), Failure> {
-        if is_unsound(bench, &damage)? {
-            return Ok(());
-        }
-        if rebuild(bench, &damage)? {
-            rebuilt += 1;
-        } else {
-            skipped += 1;
+        if !is_unsound(bench, &damage)? {
+            tally.count(&rebuild(bench, &damage)?);
         }
         Ok(())
     };
     for bench in &benches {
         for at in 0..bench.pair().proved_store().len() {
-            if random.below(SHARE) != 0 {
+            let is_meter = bench.pair().product() == Some(Product::Meter);
+            if random.below(SHARE) != 0 && !is_meter {
                 continue;
             }
             let xor = random.pick(&[0x01, 0x02, 0x04, 0x08, 0x10, 0x20, 0x40, 0x80, 0xFF]);
@@ -58,7 +58,47 @@ pub fn test(options: &Options) -> Result<String, Failure> {
         let bytes = foreign_bytes(&benches, &mut random);
         try_store(&benches[0], Step::Replace { bytes })?;
     }
-    Ok(format!("{rebuilt} damaged stores that are states reached again, {skipped} left out"))
+    let told = tally.in_words();
+    let has_both_meters = tally.of_meters > tally.reset && tally.reset > 0;
+    benches[0].demand(has_both_meters, &format!("too few Meters: {told}"))?;
+    Ok(told)
+}
+
+/// What became of a damaged store that is a state.
+enum Rebuilt {
+    /// It was reached again; if need be, after a reset.
+    Reached { product: u8, reset: bool },
+    /// No run can reach it.
+    LeftOut,
+}
+
+#[derive(Default)]
+struct Tally {
+    rebuilt: usize,
+    of_meters: usize,
+    reset: usize,
+    left_out: usize,
+}
+
+impl Tally {
+    fn count(&mut self, rebuilt: &Rebuilt) {
+        match *rebuilt {
+            Rebuilt::Reached { product, reset } => {
+                self.rebuilt += 1;
+                self.of_meters += usize::from(product == METER);
+                self.reset += usize::from(reset);
+            }
+            Rebuilt::LeftOut => self.left_out += 1,
+        }
+    }
+
+    fn in_words(&self) -> String {
+        let Tally { rebuilt, of_meters, reset, left_out } = self;
+        format!(
+            "{rebuilt} damaged stores that are states reached again, {of_meters} of them a \
+             Meter's, {reset} after a reset; {left_out} left out"
+        )
+    }
 }
 
 fn is_unsound(bench: &Bench, damage: &Step) -> Result<bool, Failure> {
@@ -72,14 +112,19 @@ fn last_command() -> Call {
     Call::handle(&command(0x7E57, GET_ALL_ALARMS, 2, 0, &[]))
 }
 
-/// Reaches the state of a damaged store again and compares. False if no run
-/// can reach it.
-fn rebuild(bench: &Bench, damage: &Step) -> Result<bool, Failure> {
+/// Reaches the state of a damaged store again and compares.
+fn rebuild(bench: &Bench, damage: &Step) -> Result<Rebuilt, Failure> {
     let mut damaged = bench.clone();
     damaged.step(damage.clone())?;
-    let state = State::read(&damaged)?;
+    let mut state = State::read(&damaged)?;
+    let reset = state.needs_reset();
+    if reset {
+        damaged.call(Call::handle(&command(0x7E56, RESET, 2, 0, &[])))?;
+        state = State::read(&damaged)?;
+        damaged.demand(!state.needs_reset(), "a reset must give first contents back")?;
+    }
     let Some(mut again) = state.reach(&damaged)? else {
-        return Ok(false);
+        return Ok(Rebuilt::LeftOut);
     };
     damaged.call(last_command())?;
     again.call(last_command())?;
@@ -87,7 +132,7 @@ fn rebuild(bench: &Bench, damage: &Step) -> Result<bool, Failure> {
         damaged.pair().proved_store() == again.pair().proved_store(),
         "the damaged store is taken for a state, but not encoded as the engine encodes that state",
     )?;
-    Ok(true)
+    Ok(Rebuilt::Reached { product: state.product, reset })
 }
 
 /// The contents of a table's instances, by class and number, then attribute.
@@ -121,15 +166,19 @@ impl State {
             )?;
             raised.push(u16::from_be_bytes([contents[2], contents[3]]));
         }
-        let unis = table.keys().filter(|(class, _)| *class == 11).count();
-        let product = if unis > 1 { 2 } else { 1 };
         Ok(State {
-            product,
+            product: product_of(&table),
             counter,
             table,
             frozen: Some(frozen).filter(|t| !t.is_empty()),
             raised,
         })
+    }
+
+    /// Whether it is a Meter's and has contents that no run can give them.
+    fn needs_reset(&self) -> bool {
+        let tables = || std::iter::once(&self.table).chain(&self.frozen);
+        self.product == METER && (self.counter != 0 || tables().any(has_written))
     }
 
     /// Reaches the state from power-on. What the state holds must be accepted
@@ -151,9 +200,34 @@ impl State {
         for &uni in &self.raised {
             way.report(Call::report_alarm(11, uni, 0, true))?;
         }
-        way.accepted((SET, 2, 0), &[0x80, 0, self.counter])?;
+        if way.bench.takes_sets() {
+            way.accepted((SET, 2, 0), &[0x80, 0, self.counter])?;
+        }
         Ok(Some(way.bench))
     }
+}
+
+/// The product whose table it is, by what it shows of UNIs.
+fn product_of(table: &Table) -> u8 {
+    let mut unis = table.iter().filter(|((class, _), _)| *class == 11);
+    match (unis.next(), unis.next()) {
+        (_, Some(_)) => LARGE,
+        (Some((_, shown)), _) if !shown.contains_key(&LOOPBACK) => METER,
+        _ => SMALL,
+    }
+}
+
+/// An attribute of UNIs that Meter hasn't.
+const LOOPBACK: u8 = 4;
+
+/// Whether an attribute that the exchange can write isn't zero, which is what
+/// Meter's have first.
+fn has_written(table: &Table) -> bool {
+    table.iter().any(|(&(class, _), shown)| {
+        all_attributes(class).iter().filter(|attribute| attribute.rights.write).any(|attribute| {
+            shown.get(&attribute.number).is_some_and(|value| value.iter().any(|&byte| byte != 0))
+        })
+    })
 }
 
 /// A state with all places taken by ports of absent bridges is legal, but no
@@ -211,7 +285,7 @@ impl Reader {
     }
 }
 
-/// The attributes of a class in Large; Small's are the first of them.
+/// The attributes of a class in Large; the other products have some of them.
 fn all_attributes(class: u16) -> &'static [Attribute] {
     Class::from_number(class).map_or(&[], Class::attributes_of_any_product)
 }
@@ -296,7 +370,7 @@ impl Way<'_> {
                 self.report(Call::report_attribute(class, instance, attribute.number, value))?;
             }
         }
-        if mask == 0 {
+        if mask == 0 || !self.bench.takes_sets() {
             return Ok(());
         }
         self.accepted((SET, class, instance), &[&mask.to_be_bytes(), &values[..]].concat())
