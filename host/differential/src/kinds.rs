@@ -3,6 +3,7 @@
 
 mod damage;
 mod examples;
+mod meter;
 mod orders;
 mod rebuild;
 mod runs;
@@ -26,8 +27,9 @@ pub struct Kind {
 }
 
 /// All kinds, in the order in which they are run.
-pub const ALL: [Kind; 17] = [
+pub const ALL: [Kind; 18] = [
     Kind { name: "examples", test: examples::test },
+    Kind { name: "meter", test: meter::test },
     Kind { name: "lent-sizes", test: sweeps::lent_sizes },
     Kind { name: "headers", test: sweeps::headers },
     Kind { name: "repeats", test: sweeps::repeats },
