@@ -53,7 +53,8 @@ pub fn store_size() -> usize {
     unsafe { c::gwz_store_size() }
 }
 
-/// Writes the fresh state of a product (1 Small, 2 Large) into the store.
+/// Writes the fresh state of a product (1 Small, 2 Large, 3 Meter) into the
+/// store.
 pub fn power_on(store: &mut [u8], product: u8) -> u8 {
     // SAFETY: the pointer and the length are a slice's.
     unsafe { c::gwz_power_on(store.as_mut_ptr(), store.len(), product) }

@@ -4,7 +4,8 @@ use exchange::{Maker, GET_ALL_ALARMS, SET, UPLOAD};
 
 use crate::engines::{message, report, Call};
 
-// The products, by the numbers that power-on takes.
+// The products that are measured, by the numbers that power-on takes. A Meter,
+// which has the least to test and to show, isn't.
 const SMALL: u8 = 1;
 const LARGE: u8 = 2;
 
