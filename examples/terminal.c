@@ -18,7 +18,7 @@
 
 #include "gwezhelin.h"
 
-/* Small has one link; GWZ_LARGE has four. */
+/* Small has one link, as GWZ_METER has; GWZ_LARGE has four. */
 enum { PRODUCT = GWZ_SMALL, LINKS = 1 };
 
 /* What the hardware tells is about class 11, the Ethernet UNI of each link. */

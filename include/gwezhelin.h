@@ -63,8 +63,11 @@ extern "C" {
 #endif
 
 /* The products, by the number that power-on takes. */
-#define GWZ_SMALL 1
-#define GWZ_LARGE 2
+#define GWZ_SMALL 1               /* one Ethernet UNI, bridges and ports */
+#define GWZ_LARGE 2               /* four UNIs, and more attributes */
+#define GWZ_METER 3               /* one UNI with fewer attributes, and no */
+                                  /* bridges: every Create, Delete and Set is */
+                                  /* refused; it is read, reset and reported */
 
 /* Every message, reply and notification has this many bytes. */
 #define GWZ_MESSAGE_LENGTH 48
@@ -105,7 +108,7 @@ size_t gwz_store_size(void);
  * Writes the fresh state of a product into the store, whatever it held. Call it
  * at every start, before the first message or report.
  *
- * product: GWZ_SMALL or GWZ_LARGE.
+ * product: GWZ_SMALL, GWZ_LARGE or GWZ_METER.
  * Returns 0; or 2, the store is too short; or 12, no such product (tried in
  * this order). On 2 and 12 the store keeps every byte.
  */

@@ -223,8 +223,10 @@ static void say_message(void)
 
 static void power_on(unsigned which)
 {
+    static const char *const names[] = { "Small", "Large", "Meter" };
+
     product = which;
-    product_name = which == GWZ_SMALL ? "Small" : "Large";
+    product_name = names[which - GWZ_SMALL];
     step_name = "power-on";
     lend();
     check(gwz_power_on(now.store, store_len, (uint8_t)which) == GWZ_ANSWERED,
@@ -438,7 +440,7 @@ static void report(const char *name, unsigned class_id, unsigned instance,
         check_avc(attribute, n);
 }
 
-/* both products declare one alarm, number 0: the top bit of the bitmap */
+/* every product declares one alarm, number 0: the top bit of the bitmap */
 static void check_alarm(unsigned on, unsigned sequence)
 {
     uint8_t v[CONTENTS] = { 0 };

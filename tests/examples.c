@@ -1,10 +1,11 @@
 /*
  * Runs the engine through its five entries, on Small and on Large: first the
- * checked examples of document 01, then longer runs. Every step prints a line:
+ * checked examples of document 01, then longer runs; and on Meter, what ticket
+ * 10 of document 02 says of it. Every step prints a line:
  *
  *     product | step | what was sent | returned number | what came back
  *
- * What document 01 fixes is checked here, and at the first thing that is wrong
+ * What the documents fix is checked here, and at the first thing that is wrong
  * the program says so and ends with status 1. The lines are compared with
  * examples.expected as well, so that nothing that is only shown moves unseen.
  */
@@ -790,7 +791,7 @@ static void raise_alarms(void)
     command("a walk of no alarms", ALL_ALARMS, ONT, 0, "", "0000");
     alarm("raised", UNI, 0x0101, 0, 1, GWZ_ANSWERED, 1);
     alarm("raised again", UNI, 0x0101, 0, 255, GWZ_QUIET, 0);
-    if (product == GWZ_SMALL)
+    if (product != GWZ_LARGE)
         return;
     alarm("raised", UNI, 0x0104, 0, 0x40, GWZ_ANSWERED, 2);
     alarm("raised", UNI, 0x0102, 0, 1, GWZ_ANSWERED, 3);
@@ -801,16 +802,16 @@ static void walk_alarms(const char *name)
 {
     command(name, ALARMS_NEXT, ONT, 0, "0000", "000B 0101 80");
     command(name, ALARMS_NEXT, ONT, 0, "0001",
-            product == GWZ_SMALL ? "" : "000B 0102 80");
+            product == GWZ_LARGE ? "000B 0102 80" : "");
     command(name, ALARMS_NEXT, ONT, 0, "0002",
-            product == GWZ_SMALL ? "" : "000B 0104 80");
+            product == GWZ_LARGE ? "000B 0104 80" : "");
     command(name, ALARMS_NEXT, ONT, 0, "0003", "");
 }
 
 static void alarm_walk(void)
 {
-    const char *count = product == GWZ_SMALL ? "0001" : "0003";
-    const char *later = product == GWZ_SMALL ? "0000" : "0002";
+    const char *count = product == GWZ_LARGE ? "0003" : "0001";
+    const char *later = product == GWZ_LARGE ? "0002" : "0000";
 
     command("a walk", ALL_ALARMS, ONT, 0, "", count);
     walk_alarms("as it was frozen");
@@ -1046,7 +1047,7 @@ static void drop_power_ons(void)
                   GWZ_DROP_STORE);
     drop_power_on("power-on: empty", 0, product, GWZ_DROP_STORE);
     drop_power_on("power-on: no product", STORE, 0, GWZ_DROP_NOT_DECLARED);
-    drop_power_on("power-on: no product", STORE, 3, GWZ_DROP_NOT_DECLARED);
+    drop_power_on("power-on: no product", STORE, 4, GWZ_DROP_NOT_DECLARED);
     drop_power_on("power-on: no product", STORE, 255, GWZ_DROP_NOT_DECLARED);
 }
 
@@ -1139,6 +1140,94 @@ static void same_anywhere(void)
     reply_len = MESSAGE;
 }
 
+/* ---- Meter ---- */
+
+/* for a known class Create, Delete and Set are 2, for any other all is 4 */
+static void meter_results(void)
+{
+    static const unsigned unknown[] = { 99, PROFILE, BRIDGE, PORT };
+
+    power_on(product);
+    for (unsigned i = 0; i < 4; i++)
+        results_of(unknown[i],
+                   "02020202040204020404020000000004" NOT_BUILT_FROM_16);
+    results_of(ONT, "02020202020202020205020000000005" NOT_BUILT_FROM_16);
+    results_of(UNI, "02020202020202020205020000000002" NOT_BUILT_FROM_16);
+    command("a Set of the counter", SET, ONT, 0, "8000 07", "02");
+    command("a Set of the UNI", SET, UNI, 0x0101, "8000 07", "02");
+    command("a Create of the UNI", CREATE, UNI, 0x0101, "", "02");
+    command("a Delete of the UNI", DELETE, UNI, 0x0101, "", "02");
+    command("a bridge", CREATE, PROFILE, 1, GOOD_BRIDGE, "04");
+    check_counter("the counter stays 0", 0);
+}
+
+/* attributes 1, 2, 5 and 6, a byte each */
+static void meter_reads(void)
+{
+    power_on(product);
+    command("all that a fresh UNI has", GET, UNI, 0x0101, "CC00",
+            "00 CC00 00 00 00 00");
+    command("3 and 4 are not supported", GET, UNI, 0x0101, "FC00",
+            "09 0000 0000000000000000000000000000000000000000"
+            "0000000000 3000");
+    command("one UNI alone", GET, UNI, 0x0102, "8000", "05");
+    report("a sensed type", UNI, 0x0101, 2, "55", GWZ_ANSWERED);
+    report("a link", UNI, 0x0101, 6, "01", GWZ_ANSWERED);
+    report("the same again", UNI, 0x0101, 6, "01", GWZ_QUIET);
+    report("no attribute 3", UNI, 0x0101, 3, "01",
+           GWZ_DROP_NOT_DECLARED);
+    report("5 isn't reported", UNI, 0x0101, 5, "01",
+           GWZ_DROP_NOT_DECLARED);
+    command("what was reported", GET, UNI, 0x0101, "CC00",
+            "00 CC00 00 55 00 01");
+}
+
+/* of that state */
+static void meter_upload_and_reset(void)
+{
+    command("an upload", UPLOAD, ONT, 0, "", "0001");
+    report("the link goes", UNI, 0x0101, 6, "00", GWZ_ANSWERED);
+    command("the section as it was frozen", UPLOAD_NEXT, ONT, 0, "",
+            "000B 0101 CC00 00 55 00 01");
+    command("no second section", UPLOAD_NEXT, ONT, 0, "0001", "");
+    command("reset of another instance", RESET, ONT, 1, "", "05");
+    command("reset", RESET, ONT, 0, "", "00");
+    repeat("its repeat");
+    command("what was reported stays", GET, UNI, 0x0101, "CC00",
+            "00 CC00 00 55 00 00");
+    command("the upload has ended", UPLOAD_NEXT, ONT, 0, "", "");
+}
+
+static void meter_stores(void)
+{
+    power_on(product);
+    alarm("an alarm", UNI, 0x0101, 0, 1, GWZ_ANSWERED, 1);
+    command("an alarm walk", ALL_ALARMS, ONT, 0, "", "0001");
+    command("an upload", UPLOAD, ONT, 0, "", "0001");
+    memcpy(sound, now.store, STORE);
+    step_name = "a spoilt store";
+    spoil_each_byte(0x01);
+    spoil_each_byte(0x80);
+    spoil_each_byte(0xFF);
+    filled_stores();
+}
+
+static void run_meter(void)
+{
+    product = GWZ_METER;
+    last_id = 0;
+    fill_lent(GWZ_METER);
+    example_12();
+    meter_results();
+    meter_reads();
+    meter_upload_and_reset();
+    alarms();
+    drops();
+    meter_stores();
+}
+
+/* ---- */
+
 static void run(unsigned which)
 {
     product = which;
@@ -1167,6 +1256,7 @@ int main(void)
     printf("store size | | | | %u\n", (unsigned)gwz_store_size());
     run(GWZ_SMALL);
     run(GWZ_LARGE);
+    run_meter();
     printf("%u steps, every check holds\n", steps);
     return EXIT_SUCCESS;
 }

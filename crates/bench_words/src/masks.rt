@@ -50,7 +50,7 @@ pub fn put_marked(out: &mut [u8], at: usize, word: &[u8], class: u16, mask: u16)
     put_names(out, named, class, mask)
 }
 
-// How many bytes the n-th attribute of a class takes where the mask names it; Large has every attribute that Small has, under the same number.
+// How many bytes the n-th attribute of a class takes where the mask names it; Large has every attribute that the other products have, under the same number.
 fn size_in(class: u16, mask: u16, n: u8) -> usize {
     if !names(mask, n) {
         return 0;
