@@ -16,7 +16,7 @@ use Rattle.bits.proofs.Masks.{Within, is-attribute, rising-within}
 use Rattle.store.specs.Layout.{place-width, contents-width}
 use Rattle.store.specs.Positions.{inside}
 use Rattle.class_tables.specs.declared.Product.{Product}
-use Rattle.class_tables.specs.Built.{cat-of, class-for}
+use Rattle.class_tables.specs.Built.{cat-of, class-for, most-classes}
 use Rattle.class_tables.specs.Masks.{writable-numbers}
 use Rattle.class_tables.specs.Computing.{computing-tables}
 use Rattle.class_tables.proofs.EveryProduct.{in-each, PassedBy, of-each, elsewhere}
@@ -86,9 +86,9 @@ module _ (pr : Product) (c : ℕ) where
 
 -- ---- how many classes there are
 
--- the code's bound, MOST_CLASSES
-pub few-classes : (pr : Product) → length (keys (cat-of pr .classes)) ≤ 5
-few-classes pr = leb-le (length (keys (cat-of pr .classes))) 5 (in-each (λ cat. leb (length (keys (cat .classes))) 5) (unfold computing-tables in refl) pr)
+pub few-classes : (pr : Product) → length (keys (cat-of pr .classes)) ≤ most-classes
+few-classes pr =
+    leb-le (length (keys (cat-of pr .classes))) most-classes (in-each (λ cat. leb (length (keys (cat .classes))) most-classes) (unfold computing-tables in refl) pr)
 
 -- no class has the number 0, which stands for none
 pub numbered-above-0 : (pr : Product) → all (λ c. ltb 0 c) (keys (cat-of pr .classes)) ≡ true

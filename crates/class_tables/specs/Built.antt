@@ -16,6 +16,10 @@ cat-of built.Small = Small
 cat-of built.Large = Large
 cat-of built.Meter = Meter
 
+-- no product has more classes; the code's MOST_CLASSES
+abbrev pub most-classes : ℕ
+most-classes = 5
+
 abbrev pub class-for : Product → ℕ → Class
 class-for pr c = class (cat-of pr) c
 
@@ -31,7 +35,7 @@ by-product built.Small small large meter = small
 by-product built.Large small large meter = large
 by-product built.Meter small large meter = meter
 
--- bridges and ports, and the commands Create, Delete and Set
+-- does it have bridges and ports, and the commands Create, Delete and Set? Meter has neither
 abbrev pub provisioned : Product → Bool
 provisioned pr = by-product pr true true false
 

@@ -21,7 +21,7 @@ pub fn supported_mask(product: Product, class: u16) -> u16
     }
 }
 
-// Those that a Set may write.
+// Those that are W: a Set may write them where the class has it, and a reset does.
 pub fn writable_mask(product: Product, class: u16) -> u16
     ensures { λ r. ⌜ r ≡ mask (writable-numbers (class-for product class)) ⌝ }
 {

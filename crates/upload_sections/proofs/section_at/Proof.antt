@@ -5,7 +5,7 @@ use mathlib.Core.List.{List}
 use borrow.Author.Needs.{needs}
 use Rattle.rules.specs.Maps.{nth}
 use Rattle.rules.specs.Walks.{Section}
-use Rattle.class_tables.specs.Built.{cat-of}
+use Rattle.class_tables.specs.Built.{cat-of, most-classes}
 use Rattle.class_tables.proofs.Facts.{few-classes}
 use Rattle.table.specs.Places.{keys-in}
 use Rattle.upload_sections.specs.Sections.{sections-in}
@@ -15,10 +15,10 @@ use Rattle.upload_sections.proofs.section_at.Tie as tie
 
 -- the one that is so many on from the j-th class is the answer
 abbrev Inv-loop : tie.InvT-loop
-Inv-loop b pr n left₀ j₀ left j = (j ≤ 5) × (nth (sections-on pr b j) left ≡ nth (sections-in (cat-of pr) (keys-in b)) n)
+Inv-loop b pr n left₀ j₀ left j = (j ≤ most-classes) × (nth (sections-on pr b j) left ≡ nth (sections-in (cat-of pr) (keys-in b)) n)
 
 abbrev μ-loop : tie.MeasureT-loop
-μ-loop b pr n left₀ j₀ left j = 5 - j
+μ-loop b pr n left₀ j₀ left j = most-classes - j
 
 loop-holds : tie.Need-loop-holds Inv-loop μ-loop
 loop-holds c =

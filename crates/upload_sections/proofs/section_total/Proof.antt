@@ -6,15 +6,16 @@ use borrow.Author.Needs.{needs}
 use Rattle.upload_sections.proofs.ClassTotals.{class-few, another-class, no-more-classes, sections-on, all-sections, total-more, none-counted}
 use Rattle.upload_sections.proofs.section_total.Statement.{statement}
 use Rattle.upload_sections.proofs.section_total.Tie as tie
+use Rattle.class_tables.specs.Built.{most-classes}
 use Rattle.class_tables.proofs.Facts.{few-classes}
 use Rattle.store.specs.Layout.{slot-count, place-count}
 
 -- those counted, and those of the classes from the j-th on, make the answer
 abbrev Inv-loop : tie.InvT-loop
-Inv-loop b pr total₀ j₀ total j = (j ≤ 5) × (total ≤ (slot-count + place-count) * 16 * j) × (total + length (sections-on pr b j) ≡ length (sections-on pr b 0))
+Inv-loop b pr total₀ j₀ total j = (j ≤ most-classes) × (total ≤ (slot-count + place-count) * 16 * j) × (total + length (sections-on pr b j) ≡ length (sections-on pr b 0))
 
 abbrev μ-loop : tie.MeasureT-loop
-μ-loop b pr total₀ j₀ total j = 5 - j
+μ-loop b pr total₀ j₀ total j = most-classes - j
 
 loop-holds : tie.Need-loop-holds Inv-loop μ-loop
 loop-holds c = (omega arith, omega arith, omega arith)
