@@ -22,9 +22,9 @@ set-uni id v = command id 0x48 11 0x0101 v
 unfoldable pub get-uni : ℕ → List ℕ → Input
 get-uni id v = command id 0x49 11 0x0101 v
 
--- the first UNI's link goes up or down
+-- the first UNI's operational state is reported: 0 the link is up, 1 it is down
 unfoldable pub link : ℕ → Input
-link up = call (attribute-report 11 0x0101 6 (up ∷ []))
+link state = call (attribute-report 11 0x0101 6 (state ∷ []))
 
 -- its signal is lost or found
 unfoldable pub signal-lost : Bool → Input
@@ -82,7 +82,7 @@ pub repeat-changes-nothing : after Small (fresh Small) (bridge ∷ bridge ∷ []
 unfolding computing-traps
 repeat-changes-nothing = refl
 
--- the checksum doesn't count; and the reply is the old one, though the link went up since
+-- the checksum doesn't count; and the reply is the old one, though the link went down since
 pub repeat-is-by-the-first-40-bytes :
     outcome Small (get-uni 5 (0x04 ∷ 0 ∷ []) ∷ link 1 ∷ [])
     (call (message (take 44 (framed (bytes 2 5) 0x49 (bytes 2 11 ++ bytes 2 0x0101) (0x04 ∷ 0 ∷ [])) ++ 1 ∷ 2 ∷ 3 ∷ 4 ∷ [])))
@@ -273,7 +273,7 @@ alarm-report-drops-in-order = refl
 
 -- ---- reports
 
--- the link goes up, and says so once; a configuration report is stored and says nothing, as no AVC is named
+-- the link goes down, and says so once; a configuration report is stored and says nothing, as no AVC is named
 pub report-is-sent-only-if-something-changed :
     map (λ r. r .1) (run-from-power-on Large (link 0 ∷ link 1 ∷ link 1 ∷ call (attribute-report 11 0x0101 7 (5 ∷ [])) ∷ signal-lost false ∷ []))
     ≡ quiet ∷ answered (framed (0 ∷ 0 ∷ []) 0x11 (0 ∷ 11 ∷ 1 ∷ 1 ∷ []) (0x04 ∷ 0 ∷ 1 ∷ [])) ∷ quiet ∷ quiet ∷ quiet ∷ []
@@ -335,7 +335,7 @@ first-content-is-copied-from-the-create = refl
 
 -- ---- MIB reset
 
--- a bridge, a written W attribute, a link that is up, an alarm, an upload
+-- a bridge, a written W attribute, a link that is down, an alarm, an upload
 unfoldable pub before-reset : List Input
 before-reset = bridge ∷ set-uni 2 (0x80 ∷ 0 ∷ 7 ∷ []) ∷ link 1 ∷ signal-lost true ∷ upload 3 ∷ []
 
