@@ -1,5 +1,5 @@
 -- Demand 3's assumption where no class has Create, Delete or Set: a run of Meter that meets it does something, Small and Large do the same, and
--- the assumption can't be left out.
+-- what it asks of answers can't be left out.
 use Prim.Native.Nat.{ℕ}
 use native.Mathlib.Omega.{arith}
 use mathlib.Core.Path.{_≡_, refl, ap}
@@ -17,7 +17,7 @@ use Rattle.demands.proofs.ProductPairs.{Promised, small-does-all-of-met
 
 -- ---- it is met
 
--- Gets of the counter and of the UNI; the sensed type is reported, and the link goes up; an upload, and the link goes down while it is fetched;
+-- Gets of the counter and of the UNI; the sensed type is reported, and the link goes down; an upload, and the link comes up while it is fetched;
 -- an alarm and an alarm walk; a Get of what Meter lacks, which is refused; too little room for a reply; all is reset, and the UNI read again.
 unfoldable pub a-meter-is-read : List Input
 a-meter-is-read =
@@ -76,7 +76,7 @@ small-does-it-too = small-does-all-of-meter .on-states a-meter-is-read promised
 pub large-does-it-too : SameRun Meter Large (fresh Meter) (fresh Large) a-meter-is-read
 large-does-it-too = large-does-all-of-meter .on-states a-meter-is-read promised
 
--- ---- it can't be left out
+-- ---- what it asks of answers can't be left out
 
 -- a Set of the counter, which Meter refuses with 2 and Small accepts; then a Get of it
 unfoldable pub a-set-that-meter-refuses : List Input

@@ -55,9 +55,9 @@ is-an-answered-change (attribute-report c i n v) o = false
 is-an-answered-change (alarm-report c i n on) o = false
 
 -- a run in which none is
-unfoldable pub sends-no-change : Catalogue → State → List Input → Bool
-sends-no-change cat s [] = true
-sends-no-change cat s (p ∷ l) = not (is-an-answered-change (p .call) (step cat s p .1)) and sends-no-change cat (step cat s p .0) l
+unfoldable pub answers-no-change : Catalogue → State → List Input → Bool
+answers-no-change cat s [] = true
+answers-no-change cat s (p ∷ l) = not (is-an-answered-change (p .call) (step cat s p .1)) and answers-no-change cat (step cat s p .0) l
 
 -- ---- commands
 
@@ -156,17 +156,17 @@ module _ (cat : Catalogue) (read : only-read cat ≡ true) where
       dropped-is-none (attribute-report c i k v) n = refl
       dropped-is-none (alarm-report c i k on) n = refl
 
-  of-a-run : (s : State) (l : List Input) → RemembersNone s → within-the-promise cat s l ≡ true → sends-no-change cat s l ≡ true
-  unfolding within-the-promise sends-no-change
+  of-a-run : (s : State) (l : List Input) → RemembersNone s → within-the-promise cat s l ≡ true → answers-no-change cat s l ≡ true
+  unfolding within-the-promise answers-no-change
   of-a-run s [] h w = refl
   of-a-run s (p ∷ l) h w =
       let x = of-a-step s p h (both (both w .1) .0) in
       and-true (false-not (x .no-change)) (of-a-run (step cat s p .0) l (x .still) (both (both w .1) .1))
 
   -- Every Create, Delete and Set that is answered is refused, so a run from power-on that is within demand 3's promise has none.
-  pub a-run-within-the-promise-sends-no-change : (l : List Input) → within-the-promise cat (fresh cat) l ≡ true → sends-no-change cat (fresh cat) l ≡ true
+  pub a-run-within-the-promise-answers-no-change : (l : List Input) → within-the-promise cat (fresh cat) l ≡ true → answers-no-change cat (fresh cat) l ≡ true
   unfolding fresh
-  a-run-within-the-promise-sends-no-change l w = of-a-run (fresh cat) l (λ r e. none-some e) w
+  a-run-within-the-promise-answers-no-change l w = of-a-run (fresh cat) l (λ r e. none-some e) w
 
 -- ---- the counter
 
@@ -288,8 +288,8 @@ pub meter-refuses-every-change : (s : State) (n c i : ℕ) (v : List ℕ) → am
     → answer Meter s n c i v ≡ (s, cond (known Meter c) not-supported unknown-class ∷ [])
 meter-refuses-every-change = every-change-is-refused Meter meter-is-only-read
 
-pub meter-s-runs-within-the-promise-send-no-change : (l : List Input) → within-the-promise Meter (fresh Meter) l ≡ true → sends-no-change Meter (fresh Meter) l ≡ true
-meter-s-runs-within-the-promise-send-no-change = a-run-within-the-promise-sends-no-change Meter meter-is-only-read
+pub meter-s-runs-within-the-promise-answer-no-change : (l : List Input) → within-the-promise Meter (fresh Meter) l ≡ true → answers-no-change Meter (fresh Meter) l ≡ true
+meter-s-runs-within-the-promise-answer-no-change = a-run-within-the-promise-answers-no-change Meter meter-is-only-read
 
 pub meter-s-counter-stays-0 : (l : List Input) → AllOfBytes l → counter Meter (after Meter (fresh Meter) l .table) ≡ 0
 meter-s-counter-stays-0 = the-counter-stays-0 Meter meter-is-well-formed meter-is-only-read
