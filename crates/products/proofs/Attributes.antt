@@ -1,5 +1,5 @@
 -- The attributes of the products' classes are plain, class by class; what only Large has stands apart, so that each class is
--- gone through once for both products.
+-- gone through once for all of them.
 use Prim.Native.Nat.{ℕ}
 use mathlib.Core.Path.{_≡_, refl}
 use mathlib.Core.Bool.{Bool, true, false, not, cond}

@@ -1,4 +1,4 @@
--- The limits on bytes that neither product reaches, shown on a catalogue made for them.
+-- The limits on bytes that no product reaches, shown on a catalogue made for them.
 use Prim.Native.Nat.{ℕ, _+_}
 use mathlib.Core.Path.{_≡_, refl}
 use mathlib.Core.Bool.{true}

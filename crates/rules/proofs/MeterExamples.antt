@@ -3,22 +3,24 @@ use Prim.Native.Nat.{ℕ}
 use mathlib.Core.Path.{_≡_, refl}
 use mathlib.Core.Bool.{true, false}
 use mathlib.Core.List.{List, [], _∷_, _++_, map}
-use lib.ListN.{take, replicate}
+use lib.ListN.{replicate}
 use Rattle.rules.specs.Bytes.{byte, fill}
-use Rattle.rules.specs.Maps.{find, keys}
-use Rattle.rules.specs.Catalogue.{Catalogue, Attribute, class, attribute}
+use Rattle.rules.specs.Maps.{keys}
+use Rattle.rules.specs.Catalogue.{automatic-numbers, class, attribute}
 use Rattle.rules.specs.State.{State, read, counter, overwrite, change, with-table}
 use Rattle.rules.specs.Messages.{framed}
-use Rattle.rules.specs.Reports.{Outcome, dropped, quiet, answered}
-use Rattle.rules.specs.Run.{Input, attribute-report, step, fresh, after, run-from-power-on}
+use Rattle.rules.specs.Reports.{dropped, quiet, answered}
+use Rattle.rules.specs.Run.{Input, attribute-report, step, fresh, run-from-power-on}
 use Rattle.rules.specs.Products.{Small, Meter}
-use Rattle.rules.proofs.Examples.{call, command, tell, good-bridge, upload-after, computing}
-use Rattle.rules.proofs.Traps.{set-uni, get-uni, link, signal-lost, upload, upload-next, told, outcome, computing-traps}
+use Rattle.rules.proofs.Examples.{call, command, shown, tell, good-bridge, computing}
+use Rattle.rules.proofs.Traps.{get-uni, link, signal-lost, upload, upload-next, told, computing-traps}
 
 -- ---- the catalogue
 
--- class 2 and the UNI; of the UNI attributes 1, 2, 5 and 6; 40 places
-pub meter-has : keys (Meter .classes) ∷ keys (class Meter 11 .attributes) ∷ (Meter .places ∷ []) ∷ [] ≡ (2 ∷ 11 ∷ []) ∷ (1 ∷ 2 ∷ 5 ∷ 6 ∷ []) ∷ (40 ∷ []) ∷ []
+-- class 2 and the UNI; one UNI; its attributes 1, 2, 5 and 6; 40 places
+pub meter-has :
+    keys (Meter .classes) ∷ automatic-numbers (class Meter 11 .creation) ∷ keys (class Meter 11 .attributes) ∷ (Meter .places ∷ []) ∷ []
+    ≡ (2 ∷ 11 ∷ []) ∷ (0x0101 ∷ []) ∷ (1 ∷ 2 ∷ 5 ∷ 6 ∷ []) ∷ (40 ∷ []) ∷ []
 unfolding computing
 meter-has = refl
 
@@ -69,7 +71,7 @@ get-works = refl
 
 -- ---- reset
 
--- no command writes them, but a store may hold this: expected type 7, admin state 1, and the counter at 9
+-- no Set writes them, but a store may hold this: expected type 7, admin state 1, and the counter at 9
 unfoldable pub written : State
 written = with-table
     (change Meter 2 0 (overwrite ((1, 9 ∷ []) ∷ [])) (change Meter 11 0x0101 (overwrite ((1, 7 ∷ []) ∷ (5, 1 ∷ []) ∷ [])) (fresh Meter .table)))
@@ -85,7 +87,7 @@ reset = command 1 0x4F 2 0 []
 -- 1 and 5 are W, so a reset writes them; what was reported stays
 pub reset-writes-what-is-W :
     let s : State = step Meter written (link 1) .0 in
-    held s ++ (byte (tell Meter [] reset) 0 ∷ []) ∷ held (step Meter s reset .0)
+    held s ++ (byte (shown (step Meter s reset .1)) 0 ∷ []) ∷ held (step Meter s reset .0)
     ≡ (9 ∷ []) ∷ (7 ∷ []) ∷ (0 ∷ []) ∷ (1 ∷ []) ∷ (1 ∷ []) ∷ (0 ∷ []) ∷ (0 ∷ []) ∷ (0 ∷ []) ∷ (0 ∷ []) ∷ (0 ∷ []) ∷ (1 ∷ []) ∷ []
 unfolding computing-traps written held reset
 reset-writes-what-is-W = refl

@@ -1,4 +1,4 @@
--- When a second catalogue extends a first: the sentences of document 01's paragraph, a condition each.
+-- When a second catalogue extends a first: the sentences of document 01's paragraph, and of ticket 10, a condition each.
 use Prim.Native.Nat.{ℕ}
 use mathlib.Core.Path.{_≡_}
 use mathlib.Core.Bool.{Bool, true, false, not}

@@ -1,4 +1,4 @@
--- What holds in every catalogue: the sentences of document 01's paragraph, a condition each.
+-- What holds in every catalogue: the sentences of document 01's paragraph, and of ticket 10, a condition each.
 use Prim.Native.Nat.{ℕ, _+_, _^_, _≤_}
 use mathlib.Core.Path.{_≡_}
 use mathlib.Core.Bool.{Bool, true, false, not}
@@ -118,7 +118,9 @@ C-only-if-created c k n a = implies (a .C) (is-created (k .creation))
 unfoldable pub created-by-Create : ℕ → Class → Bool
 created-by-Create c k = implies (among create-number (k .commands) or among delete-number (k .commands)) (is-created (k .creation))
 
--- Delete is allowed where Create is, and nowhere else (document 02, ticket 10)
+-- ---- a condition of document 02's ticket 10
+
+-- Delete is allowed where Create is, and nowhere else
 unfoldable pub delete-where-create : Class → Bool
 delete-where-create k =
     let creates : Bool = among create-number (k .commands) in
