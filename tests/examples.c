@@ -1172,7 +1172,7 @@ static void meter_reads(void)
             "0000000000 3000");
     command("one UNI alone", GET, UNI, 0x0102, "8000", "05");
     report("a sensed type", UNI, 0x0101, 2, "55", GWZ_ANSWERED);
-    report("a link", UNI, 0x0101, 6, "01", GWZ_ANSWERED);
+    report("the link goes", UNI, 0x0101, 6, "01", GWZ_ANSWERED);
     report("the same again", UNI, 0x0101, 6, "01", GWZ_QUIET);
     report("no attribute 3", UNI, 0x0101, 3, "01",
            GWZ_DROP_NOT_DECLARED);
@@ -1186,7 +1186,7 @@ static void meter_reads(void)
 static void meter_upload_and_reset(void)
 {
     command("an upload", UPLOAD, ONT, 0, "", "0001");
-    report("the link goes", UNI, 0x0101, 6, "00", GWZ_ANSWERED);
+    report("the link is back", UNI, 0x0101, 6, "00", GWZ_ANSWERED);
     command("the section as it was frozen", UPLOAD_NEXT, ONT, 0, "",
             "000B 0101 CC00 00 55 00 01");
     command("no second section", UPLOAD_NEXT, ONT, 0, "0001", "");

@@ -181,7 +181,7 @@ fn run_here(kind: &Kind, options: &Options) -> ExitCode {
     let calls = pair::CALLED.load(Ordering::Relaxed);
     let meter = pair::CALLED_AS_METER.load(Ordering::Relaxed);
     match ended {
-        // Every kind goes over all products. Meter is easily left out, since it
+        // Every kind goes over Meter, which is easily left out, since it
         // refuses much of what the others accept.
         Ok(_) if meter == 0 => {
             println!("{}: FAILED, no call was made of a Meter", kind.name);
