@@ -33,7 +33,7 @@ fn class_total(b: &[u8], product: Product, class: u16, each: usize) -> usize
     entries::instance_count(b, product, class) * each
 }
 
-// How many sections the table in a block has. The loop's bound is a constant, so that what is known of each class is computed beforehand.
+// How many sections the table in a block has. The loop's bound is a constant, so that the compiler can unroll it: docs/SPEED.md has what it saves.
 pub fn section_total(b: &[u8], product: Product) -> usize
     requires { ⌜ InShape (now b) ⌝ }
     ensures { λ r. ⌜ r ≡ length (sections-in (cat-of product) (keys-in (now (b .entry)))) ⌝ }
