@@ -8,6 +8,8 @@ use bench_names::names::put_result;
 use bench_names::reads::byte_at;
 use bench_names::reads::number_at;
 use bench_names::reads::part;
+use class_tables::Product;
+use class_tables::masks::writable_mask;
 use message_frame::numbers::ALARMS_NEXT;
 use message_frame::numbers::ALL_ALARMS;
 use message_frame::numbers::CREATE;
@@ -28,12 +30,28 @@ fn put_count(out: &mut [u8], at: usize, m: &[u8]) -> usize {
     put(out, told, b" sections")
 }
 
-// A Set's result, with what it names as unsupported or failed.
+// A Set's result, with the attributes that failed, and why: those in its second mask may not be written, or else have a content that isn't legal.
+// What is writable is asked of Large: every attribute of another product is writable there if it is here (`products/Rights.same-rights-in-large`).
 fn put_set(out: &mut [u8], at: usize, m: &[u8]) -> usize {
     let class = number_at(m, 4);
+    let failed = number_at(m, 11);
+    let writable = writable_mask(Product::Large, class);
     let told = put_result(out, at, byte_at(m, 8));
-    let unsupported = put_marked(out, told, b"unsupported: ", class, number_at(m, 9));
-    put_marked(out, unsupported, b"failed: ", class, number_at(m, 11))
+    let missing = put_marked(out, told, b"unsupported: ", class, number_at(m, 9));
+    let fixed = put_marked(
+        out,
+        missing,
+        b"not writable: ",
+        class,
+        bits::without(failed, writable),
+    );
+    put_marked(
+        out,
+        fixed,
+        b"content not legal: ",
+        class,
+        bits::common(failed, writable),
+    )
 }
 
 // A Create's result, with the attributes whose values are bad.

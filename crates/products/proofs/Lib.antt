@@ -7,3 +7,4 @@ pub mod WellFormed
 pub mod Extends
 pub mod Probe
 pub mod Grown
+pub mod Rights
