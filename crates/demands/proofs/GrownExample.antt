@@ -112,6 +112,6 @@ unfolding computing computing-grown timer results
 more-is-there = refl
 
 -- In a zone that isn't zero the second refuses an hour that the first takes: but then the first has refused the timer.
-pub what-is-added-was-zero : map (λ zone. results (timer 1 1 0 1 0 zone ∷ []) (command 2 0x48 70 1 (0x10 ∷ 0 ∷ 9 ∷ []))) (0 ∷ 1 ∷ []) ≡ (0 ∷ 0 ∷ []) ∷ (5 ∷ 3 ∷ []) ∷ []
+pub what-is-added-was-zero : map (λ zone. results (timer 1 1 0 1 0 zone ∷ []) (command 2 0x48 70 1 (0x10 ∷ 0 ∷ 9 ∷ []))) (0 ∷ 1 ∷ []) ≡ (0 ∷ 0 ∷ []) ∷ (5 ∷ 9 ∷ []) ∷ []
 unfolding computing computing-grown timer results
 what-is-added-was-zero = refl

@@ -141,7 +141,7 @@ module _ (cat : Catalogue) (s : State) (c i : ℕ) (v : List ℕ) where
   unfolding set set-results overwritten
   accepted-is = unless-refused-is (λ a. byte (a .1) 0 ≡ 0 → NoneApplies results × (a ≡ (with-table (moved-by-set cat c overwritten) s, 0 ∷ []))) s results _
       (λ r e y. absurd (first-has (λ r. byte r 0 ≢ 0) results
-      ((λ y. over-0 4), ((λ y. over-0 2), ((λ y. over-0 8), ((λ y. over-0 2), ((λ y. over-0 2), tt))))) r e y))
+      ((λ y. over-0 4), ((λ y. over-0 2), ((λ y. over-0 8), ((λ y. over-0 2), ((λ y. over-0 8), tt))))) r e y))
       (λ clear y. (clear, refl))
 
   table-is : Accepted → table-after ≡ moved-by-set cat c overwritten

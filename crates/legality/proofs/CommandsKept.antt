@@ -110,7 +110,7 @@ module _ (cat : Catalogue) (wf : WellFormed cat) (s : State) (h : LegalState cat
             (
               (λ y. small-result 3 (omega arith)),
               (
-                (λ y. bytes-cons 3 _ (omega arith) (bytes-cons 0 _ (omega arith) (masked 0 (mask (bad-in-set cat s c i v)) (omega arith)))),
+                (λ y. bytes-cons 9 _ (omega arith) (bytes-cons 0 _ (omega arith) (masked 0 (mask (bad-in-set cat s c i v)) (omega arith)))),
                 tt,
               ),
             ),

@@ -123,7 +123,7 @@ computing-refused = 0
 
 pub refused-commands-have-these-results :
     both-products (λ cat. map (take 1) (told cat built refused-commands))
-    ≡ twice (map (λ n. n ∷ []) (7 ∷ 7 ∷ 3 ∷ 3 ∷ 2 ∷ 2 ∷ 2 ∷ 4 ∷ 5 ∷ 5 ∷ 2 ∷ 2 ∷ 2 ∷ 4 ∷ 5 ∷ 5 ∷ 3 ∷ 9 ∷ 9 ∷ 9 ∷ 9 ∷ 3 ∷ 4 ∷ 5 ∷ 2 ∷ 4 ∷ []))
+    ≡ twice (map (λ n. n ∷ []) (7 ∷ 7 ∷ 3 ∷ 3 ∷ 2 ∷ 2 ∷ 2 ∷ 4 ∷ 5 ∷ 5 ∷ 2 ∷ 2 ∷ 2 ∷ 4 ∷ 5 ∷ 5 ∷ 3 ∷ 9 ∷ 9 ∷ 9 ∷ 9 ∷ 9 ∷ 4 ∷ 5 ∷ 2 ∷ 4 ∷ []))
 unfolding computing-refused
 refused-commands-have-these-results = refl
 
@@ -430,10 +430,10 @@ unis-that-are-there = refl
 unfoldable pub sets : ℕ → ℕ → ℕ → ℕ → List ℕ → Catalogue → List (List ℕ)
 sets c i m size l cat = each-told cat built (map (λ n. command 9 0x48 c i (bytes 2 m ++ bytes size n)) l)
 
--- the replies where so many are too low, so many are legal and so many too high: refused with 3 and the bit in the failed mask
+-- the replies where so many are too low, so many are legal and so many too high: refused with 9 and the bit in the failed mask
 unfoldable pub below-in-above : ℕ → ℕ → ℕ → ℕ → List (List ℕ)
 below-in-above m low good high =
-    replicate low (fill 32 (3 ∷ 0 ∷ 0 ∷ bytes 2 m)) ++ replicate good (result 0) ++ replicate high (fill 32 (3 ∷ 0 ∷ 0 ∷ bytes 2 m))
+    replicate low (fill 32 (9 ∷ 0 ∷ 0 ∷ bytes 2 m)) ++ replicate good (result 0) ++ replicate high (fill 32 (9 ∷ 0 ∷ 0 ∷ bytes 2 m))
 
 unfoldable pub computing-bounds : ℕ
 unfolding computing-shown sets below-in-above
@@ -715,7 +715,7 @@ pub unsupported-and-unwritable-go-before-bad-contents :
     ∷ command 3 0x48 200 0 (0x80 ∷ 1 ∷ replicate 26 255)
     ∷ command 4 0x48 200 0 (0x10 ∷ 1 ∷ replicate 26 255)
     ∷ [])
-    ≡ fill 32 (3 ∷ 0 ∷ 0 ∷ 0 ∷ 1 ∷ []) ∷ fill 32 (9 ∷ 0 ∷ 0 ∷ 0x80 ∷ 0 ∷ []) ∷ fill 32 (9 ∷ 0x10 ∷ 0 ∷ []) ∷ []
+    ≡ fill 32 (9 ∷ 0 ∷ 0 ∷ 0 ∷ 1 ∷ []) ∷ fill 32 (9 ∷ 0 ∷ 0 ∷ 0x80 ∷ 0 ∷ []) ∷ fill 32 (9 ∷ 0x10 ∷ 0 ∷ []) ∷ []
 unfolding computing-shown
 unsupported-and-unwritable-go-before-bad-contents = refl
 
@@ -742,7 +742,7 @@ Judged = record { places = 0; classes = (2, ont-data-class) ∷ (300, judged-cla
 -- 2 is bad for attribute 2: with 26 bytes its bit shows, with 31 bytes no bit does
 pub more-than-30-bytes-goes-before-bad-contents :
     told Judged [] (command 1 0x48 300 7 (0xC0 ∷ 0 ∷ replicate 30 2) ∷ command 2 0x48 300 7 (0xE0 ∷ 0 ∷ replicate 30 2) ∷ [])
-    ≡ fill 32 (3 ∷ 0 ∷ 0 ∷ 0x40 ∷ 0 ∷ []) ∷ result 3 ∷ []
+    ≡ fill 32 (9 ∷ 0 ∷ 0 ∷ 0x40 ∷ 0 ∷ []) ∷ result 3 ∷ []
 unfolding computing-shown judged-class Judged
 more-than-30-bytes-goes-before-bad-contents = refl
 

@@ -170,7 +170,7 @@ set-fails-with-each-bit-in-its-own-mask = refl
 -- loopback 1 is bad: the good expected type isn't stored, nor does the counter move
 pub refused-set-stores-nothing :
     told Small [] (set-uni 1 (0x90 ∷ 0 ∷ 7 ∷ 1 ∷ []) ∷ get-uni 2 (0x90 ∷ 0 ∷ []) ∷ command 3 0x49 2 0 (0x80 ∷ 0 ∷ []) ∷ [])
-    ≡ fill 32 (3 ∷ 0 ∷ 0 ∷ 0x10 ∷ 0 ∷ []) ∷ fill 32 (0 ∷ 0x90 ∷ 0 ∷ []) ∷ fill 32 (0 ∷ 0x80 ∷ 0 ∷ []) ∷ []
+    ≡ fill 32 (9 ∷ 0 ∷ 0 ∷ 0x10 ∷ 0 ∷ []) ∷ fill 32 (0 ∷ 0x90 ∷ 0 ∷ []) ∷ fill 32 (0 ∷ 0x80 ∷ 0 ∷ []) ∷ []
 unfolding computing-traps
 refused-set-stores-nothing = refl
 
@@ -180,6 +180,20 @@ pub set-results-in-order :
     ≡ fill 32 (5 ∷ []) ∷ fill 32 (3 ∷ []) ∷ fill 32 (9 ∷ 0x01 ∷ 0 ∷ []) ∷ []
 unfolding computing-traps
 set-results-in-order = refl
+
+-- loopback 1 and admin state 2 are bad, expected type 7 isn't; each alone, and both
+pub set-fails-with-every-bad-bit :
+    told Small [] (set-uni 1 (0x90 ∷ 0 ∷ 7 ∷ 1 ∷ []) ∷ set-uni 2 (0x88 ∷ 0 ∷ 7 ∷ 2 ∷ []) ∷ set-uni 3 (0x98 ∷ 0 ∷ 7 ∷ 1 ∷ 2 ∷ []) ∷ [])
+    ≡ map (λ b. fill 32 (9 ∷ 0 ∷ 0 ∷ b ∷ 0 ∷ [])) (0x10 ∷ 0x08 ∷ 0x18 ∷ [])
+unfolding computing-traps
+set-fails-with-every-bad-bit = refl
+
+-- loopback 1 is bad: beside attribute 2, which can't be written, beside 7, which isn't supported, and beside both it doesn't show
+pub bad-contents-do-not-show-beside-other-failures :
+    told Small [] (set-uni 1 (0x50 ∷ 0 ∷ 7 ∷ 1 ∷ []) ∷ set-uni 2 (0x12 ∷ 0 ∷ 1 ∷ []) ∷ set-uni 3 (0x52 ∷ 0 ∷ 7 ∷ 1 ∷ []) ∷ [])
+    ≡ fill 32 (9 ∷ 0 ∷ 0 ∷ 0x40 ∷ 0 ∷ []) ∷ fill 32 (9 ∷ 0x02 ∷ 0 ∷ []) ∷ fill 32 (9 ∷ 0x02 ∷ 0 ∷ 0x40 ∷ 0 ∷ []) ∷ []
+unfolding computing-traps
+bad-contents-do-not-show-beside-other-failures = refl
 
 -- the same, and an unsupported bit beside 27 bytes of values; a refused Get shows zero mask and values
 pub get-results-in-order :

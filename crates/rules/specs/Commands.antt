@@ -126,7 +126,7 @@ set-results there k m bad =
       attribute-failed ∷ bytes 2 (mask (unsupported k (named m))) ++ bytes 2 (mask (unwritable k (named m))),
     )
     ∷ (ltb 30 (total (size-of k) (named m)), bad-parameter ∷ [])
-    ∷ (not (empty bad), bad-parameter ∷ 0 ∷ 0 ∷ bytes 2 (mask bad))
+    ∷ (not (empty bad), attribute-failed ∷ 0 ∷ 0 ∷ bytes 2 (mask bad))
     ∷ []
 
 -- a Set of class 2 stores what it carries and doesn't move the counter further

@@ -1,26 +1,44 @@
 -- The results of a Set of an instance that is there, line by line.
-use Prim.Native.Nat.{ℕ, _≤_, _<_}
-use mathlib.Core.Path.{_≡_, refl, sym}
-use mathlib.Core.Bool.{Bool, true, false, not, _||_}
+use Prim.Native.Nat.{ℕ, _≤_}
+use mathlib.Core.Path.{_≡_, refl, sym, _∙_, ap}
+use mathlib.Core.Bool.{Bool, true, false, not, cond, _&&_, _||_}
 use mathlib.Core.Option.{Option, none, some}
 use mathlib.Core.Logic.{_≢_}
 use mathlib.Core.List.{List, [], _∷_, _++_}
-use lib.Dec.{eqb}
-use Rattle.rules.specs.Maps.{_and_, empty, first-that-applies}
+use lib.Dec.{eqb, ltb}
+use Rattle.rules.specs.Maps.{_and_, _or_, empty, first-that-applies}
 use Rattle.rules.specs.Bytes.{bytes}
 use Rattle.rules.specs.Masks.{named, mask, total}
 use Rattle.rules.specs.Catalogue.{Class, size-of}
 use Rattle.rules.specs.Messages.{bad-parameter, attribute-failed}
 use Rattle.rules.specs.Commands.{unsupported, unwritable, set-results}
-use Rattle.rules.proofs.Laws.{both, not-false, eqb-true, eqb-false, lt-ltb, le-ltb, ltb-le}
+use Rattle.rules.proofs.Laws.{cases, never, both, not-false, eqb-true, eqb-false, eqb-eq, ltb-le}
 use Rattle.legality.proofs.Refusals.{NoneApplies, none-applies}
 use Rattle.bits.proofs.Masks.{none-in}
+use Rattle.set_command.specs.declared.Judged.{Judged}
+use Rattle.set_command.specs.Sets.{Judges, barred, too-long}
 
 -- not both
 either-not : (a b : Bool) → (not a || not b) ≡ not (a and b)
 unfolding _and_
 either-not true b = refl
 either-not false b = refl
+
+only-second : (a b : Bool) → (not a && b) ≡ true → (a ≡ false) × (b ≡ true)
+only-second true b e = never e
+only-second false b e = (refl, e)
+
+not-second : (a b : Bool) → (not a && b) ≡ false → a ≡ false → b ≡ false
+not-second true b e f = never (sym f)
+not-second false b e f = e
+
+second-left : (a b : Bool) → (a || b) ≡ false → b ≡ false
+second-left true b e = never (sym e)
+second-left false b e = e
+
+-- values that are judged aren't too long
+pub judged-fit : (u w sum : ℕ) → ((not (eqb u 0) || not (eqb w 0)) || ltb 30 sum) ≡ false → sum ≤ 30
+judged-fit u w sum e = ltb-le 30 sum (second-left (not (eqb u 0) || not (eqb w 0)) (ltb 30 sum) e)
 
 module _ (k : Class) (m : ℕ) (bad : List ℕ) where
   abbrev line : Option (List ℕ)
@@ -30,27 +48,73 @@ module _ (k : Class) (m : ℕ) (bad : List ℕ) where
   unfolding set-results first-that-applies
   refused-empty z = sym (rw (eqb-true m 0 z) refl)
 
-  module _ (some-asked : m ≢ 0) {missing fixed : ℕ} (are-missing : missing ≡ mask (unsupported k (named m))) (are-fixed : fixed ≡ mask (unwritable k (named m))) where
-    failing : {t : Bool} → (not (eqb missing 0) || not (eqb fixed 0)) ≡ t → not (empty (unsupported k (named m)) and empty (unwritable k (named m))) ≡ t
-    failing e = rw (none-in (unsupported k (named m)) are-missing, none-in (unwritable k (named m)) are-fixed, ← either-not (eqb missing 0) (eqb fixed 0)) e
+  -- ---- what was judged
 
-    pub refused-failed : (not (eqb missing 0) || not (eqb fixed 0)) ≡ true → some (attribute-failed ∷ bytes 2 missing ++ bytes 2 fixed) ≡ line
+  module _ {u w : ℕ} (are-unsupported : u ≡ mask (unsupported k (named m))) (are-unwritable : w ≡ mask (unwritable k (named m))) where
+    pub barred-is : (not (eqb u 0) || not (eqb w 0)) ≡ barred k m
+    barred-is = either-not (eqb u 0) (eqb w 0) ∙ sym (rw (none-in (unsupported k (named m)) are-unsupported, none-in (unwritable k (named m)) are-unwritable) refl)
+
+    module _ {sum : ℕ} (total-is : sum ≡ total (size-of k) (named m)) where
+      long-is : ltb 30 sum ≡ too-long k m
+      long-is = ap (ltb 30) total-is
+
+      module _ {t : Bool} (way : ((not (eqb u 0) || not (eqb w 0)) || ltb 30 sum) ≡ t) where
+        way-is : (barred k m or too-long k m) ≡ t
+        unfolding _or_
+        way-is = rw (← barred-is, ← long-is) way
+
+      pub not-judged : ((not (eqb u 0) || not (eqb w 0)) || ltb 30 sum) ≡ true
+          → Judges k m bad (record { «unsupported» = u; «failed» = w; «barred» = not (eqb u 0) || not (eqb w 0); «long» = ltb 30 sum })
+      not-judged e = record { are-unsupported = are-unsupported; are-failed = rw (way-is e) are-unwritable; is-barred = barred-is; is-long = long-is }
+
+      pub all-judged : ((not (eqb u 0) || not (eqb w 0)) || ltb 30 sum) ≡ false → {x : ℕ} → x ≡ mask bad
+          → Judges k m bad (record { «unsupported» = u; «failed» = x; «barred» = not (eqb u 0) || not (eqb w 0); «long» = ltb 30 sum })
+      all-judged e are-bad = record { are-unsupported = are-unsupported; are-failed = rw (way-is e) are-bad; is-barred = barred-is; is-long = long-is }
+
+  -- ---- what it is refused with
+
+  module _ (some-asked : m ≢ 0) {j : Judged} (r : Judges k m bad j) where
+    -- which attributes failed: those that may not be written, if any is unsupported or unwritable; else, if they aren't too long, those with bad contents
+    failed-if-barred : barred k m ≡ true → j .failed ≡ mask (unwritable k (named m))
+    unfolding _or_
+    failed-if-barred y = r .are-failed ∙ ap (λ (t : Bool). mask (cond (t or too-long k m) (unwritable k (named m)) bad)) y
+
+    module _ (not-barred : barred k m ≡ false) where
+      unsupported-none : eqb (j .unsupported) 0 ≡ true
+      unsupported-none = sym (none-in (unsupported k (named m)) (r .are-unsupported)) ∙ both (not-false not-barred) .0
+
+      failed-if-judged : too-long k m ≡ false → j .failed ≡ mask bad
+      unfolding _or_
+      failed-if-judged n = r .are-failed ∙ ap (λ (t : Bool). mask (cond (t or too-long k m) (unwritable k (named m)) bad)) not-barred
+          ∙ ap (λ (t : Bool). mask (cond t (unwritable k (named m)) bad)) n
+
+    pub refused-long : (not (j .barred) && j .long) ≡ true → some (bad-parameter ∷ []) ≡ line
     unfolding set-results first-that-applies
-    refused-failed z = sym (rw (eqb-false m 0 some-asked, failing z, ← are-missing, ← are-fixed) refl)
+    refused-long e =
+        let p = only-second (j .barred) (j .long) e in
+        sym (rw (eqb-false m 0 some-asked, sym (r .is-barred) ∙ p .0, sym (r .is-long) ∙ p .1) refl)
 
-    module _ (z : (not (eqb missing 0) || not (eqb fixed 0)) ≡ false) {sum : ℕ} (total-is : sum ≡ total (size-of k) (named m)) where
-      pub refused-long : 30 < sum → some (bad-parameter ∷ []) ≡ line
+    module _ (e : (not (j .barred) && j .long) ≡ false) where
+      fits : barred k m ≡ false → too-long k m ≡ false
+      fits n = sym (r .is-long) ∙ not-second (j .barred) (j .long) e (r .is-barred ∙ n)
+
+      pub refused-failed : (not (eqb (j .unsupported) 0) || not (eqb (j .failed) 0)) ≡ true
+          → some (attribute-failed ∷ bytes 2 (j .unsupported) ++ bytes 2 (j .failed)) ≡ line
+      unfolding set-results first-that-applies bytes
+      refused-failed q = cases (barred k m)
+          (λ y. sym (rw (eqb-false m 0 some-asked, y, ← r .are-unsupported, ← failed-if-barred y) refl))
+          (λ n.
+          let f = failed-if-judged n (fits n) in
+          let g : not (eqb (j .failed) 0) ≡ true = rw (unsupported-none n) at q in
+          sym (rw (eqb-false m 0 some-asked, n, fits n, none-in bad f, g, ← f, eqb-eq (j .unsupported) 0 (unsupported-none n)) refl))
+
+      pub accepted : (not (eqb (j .unsupported) 0) || not (eqb (j .failed) 0)) ≡ false → none ≡ line
       unfolding set-results first-that-applies
-      refused-long g = sym (rw (eqb-false m 0 some-asked, failing z, ← total-is, lt-ltb 30 sum g) refl)
-
-      module _ (g : sum ≤ 30) {x : ℕ} (are-bad : x ≡ mask bad) where
-        pub refused-bad : x ≢ 0 → some (bad-parameter ∷ 0 ∷ 0 ∷ bytes 2 x) ≡ line
-        unfolding set-results first-that-applies
-        refused-bad y = sym (rw (eqb-false m 0 some-asked, failing z, ← total-is, le-ltb 30 sum g, none-in bad are-bad, eqb-false x 0 y, ← are-bad) refl)
-
-        pub accepted : x ≡ 0 → none ≡ line
-        unfolding set-results first-that-applies
-        accepted y = sym (rw (eqb-false m 0 some-asked, failing z, ← total-is, le-ltb 30 sum g, none-in bad are-bad, eqb-true x 0 y) refl)
+      accepted q =
+          let z = both (not-false (sym (either-not (eqb (j .unsupported) 0) (eqb (j .failed) 0)) ∙ q)) in
+          cases (barred k m)
+          (λ y. never (sym (rw (none-in (unsupported k (named m)) (r .are-unsupported), none-in (unwritable k (named m)) (failed-if-barred y)) (sym (either-not _ _) ∙ q)) ∙ y))
+          (λ n. sym (rw (eqb-false m 0 some-asked, n, fits n, none-in bad (failed-if-judged n (fits n)), z .1) refl))
 
 -- what holds where no line applied
 pub record Passed (k : Class) (m : ℕ) (bad : List ℕ) : Type 0 where

@@ -14,7 +14,7 @@ use Rattle.rules.specs.Maps.{_and_, among, all, empty, those}
 use Rattle.rules.specs.Bytes.{byte, two, bytes, fill, laid}
 use Rattle.rules.specs.Masks.{named}
 use Rattle.rules.specs.Catalogue.{Class, attribute, supported, size-of, is-stored, stored-numbers, ont-data}
-use Rattle.rules.specs.Messages.{bad-parameter, attribute-failed, next-number}
+use Rattle.rules.specs.Messages.{attribute-failed, next-number}
 use Rattle.rules.specs.Commands.{cut, unsupported, unwritable}
 use Rattle.rules.specs.WellFormed.{rights-only-if-stored}
 use Rattle.rules.proofs.Laws.{cases, never, or-left, eqb-true, eqb-false}
@@ -24,13 +24,12 @@ use Rattle.octets.proofs.Laid.{laid-part, length-laid}
 use Rattle.class_tables.specs.Built.{cat-of, class-for}
 use Rattle.class_tables.proofs.EveryProduct.{well-formed-of}
 use Rattle.class_tables.proofs.Offsets.{is-among-stored}
-use Rattle.attribute_check.specs.Judges.{is-in, bad-among}
 use Rattle.attribute_write.specs.Lays.{laid-values, all-stored, Laying}
 use Rattle.attribute_write.proofs.Overwritten.{cut-is-sized, length-laid-values}
 use Rattle.table.specs.Counts.{moved-on}
 use Rattle.set_command.specs.declared.SetRefusal.{SetRefusal}
-use Rattle.set_command.specs.declared.SetRefusal.the-variants.{Accepted, Result, Failed, Bad}
-use Rattle.set_command.specs.Sets.{set-contents, refusing, counted-by, written, live-in, values-in, SetAt}
+use Rattle.set_command.specs.declared.SetRefusal.the-variants.{Accepted}
+use Rattle.set_command.specs.Sets.{bad-at, set-contents, refusing, counted-by, written, live-in, values-in, SetAt}
 use Rattle.set_command.proofs.Refused.{Passed, passed}
 use Rattle.class_tables.specs.declared.Product.{Product}
 
@@ -86,11 +85,6 @@ module _ (pr : Product) (c at m : ℕ) (v b : List ℕ) where
 
 -- ---- the replies
 
-pub put-bad-is : (out : List ℕ) (m : ℕ) {x : List ℕ} → out ≡ replicate 32 0 → x ≡ take 3 (set out 0 3) ++ (bytes 2 m ++ drop 5 (set out 0 3))
-    → x ≡ fill 32 (bad-parameter ∷ 0 ∷ 0 ∷ bytes 2 m)
-unfolding bytes
-put-bad-is out m z e = e ∙ ap (λ (o : List ℕ). take 3 (set o 0 3) ++ (bytes 2 m ++ drop 5 (set o 0 3))) z
-
 pub half-failed : (out : List ℕ) (m : ℕ) {x : List ℕ} → out ≡ replicate 32 0 → x ≡ take 1 (set out 0 9) ++ (bytes 2 m ++ drop 3 (set out 0 9)) → length x ≡ 32
 unfolding bytes
 half-failed out m z e = ap length (e ∙ ap (λ (o : List ℕ). take 1 (set o 0 9) ++ (bytes 2 m ++ drop 3 (set o 0 9))) z)
@@ -111,20 +105,14 @@ module _ (pr : Product) (c at : ℕ) (v store : List ℕ) {m : ℕ} (is : m ≡ 
   refusal-is : {w : SetRefusal} → r ≡ w → set-contents w ≡ refusing pr c at (two v 0) (values-in v) (live-in store)
   refusal-is e = ap set-contents (sym e) ∙ found ∙ ap (λ (n : ℕ). refusing pr c at n (values-in v) (live-in store)) is
 
-  pub with-result : {x : ℕ} {out : List ℕ} → r ≡ Result x → out ≡ fill 32 (x ∷ []) → SetAt pr c at v store store out
-  with-result {x} e o = refused-with pr c at v store (x ∷ []) (refusal-is e) o
-
-  pub with-failed : {x y : ℕ} {out : List ℕ} → r ≡ Failed x y → out ≡ fill 32 (attribute-failed ∷ bytes 2 x ++ bytes 2 y) → SetAt pr c at v store store out
-  with-failed {x} {y} e o = refused-with pr c at v store (attribute-failed ∷ bytes 2 x ++ bytes 2 y) (refusal-is e) o
-
-  pub with-bad : {x : ℕ} {out : List ℕ} → r ≡ Bad x → out ≡ fill 32 (bad-parameter ∷ 0 ∷ 0 ∷ bytes 2 x) → SetAt pr c at v store store out
-  with-bad {x} e o = refused-with pr c at v store (bad-parameter ∷ 0 ∷ 0 ∷ bytes 2 x) (refusal-is e) o
+  pub with-refusal : {w : SetRefusal} {x out : List ℕ} → some x ≡ set-contents w → r ≡ w → out ≡ fill 32 x → SetAt pr c at v store store out
+  with-refusal {x = x} f e o = refused-with pr c at v store x (f ∙ refusal-is e) o
 
   module _ (e : r ≡ Accepted) (long : length v ≡ 32) (room : at + contents-width (class-for pr c) ≤ length (live-in store)) where
     pub accepted-lays : Laying (class-for pr c) at (named m) (values-in v) (live-in store)
     unfolding refusing
     accepted-lays =
-        may-lay pr c (passed (class-for pr c) m (bad-among (is-in (cat-of pr) (live-in store)) (class-for pr c) (live-in store) at (named m) (values-in v)) (sym found ∙ ap set-contents e))
+        may-lay pr c (passed (class-for pr c) m (bad-at pr c at m (values-in v) (live-in store)) (sym found ∙ ap set-contents e))
         room (length-take-le 30 (drop 2 v) (rw (length-drop 2 v) (omega arith)))
 
     pub as-accepted : {y out : List ℕ} → length (live-in store) ≡ block-length → y ≡ written pr c at m (values-in v) (live-in store) → out ≡ replicate 32 0

@@ -15,7 +15,7 @@ ghost use Prim.Native.Nat.{_+_, _≤_, _<_};
 ghost use lib.ListN.{length, replicate};
 ghost use Rattle.rules.specs.Bytes.{bytes, fill};
 ghost use Rattle.rules.specs.Masks.{named};
-ghost use Rattle.rules.specs.Messages.{bad-parameter, attribute-failed};
+ghost use Rattle.rules.specs.Messages.{attribute-failed};
 ghost use Rattle.rules.specs.Commands.{set};
 ghost use Rattle.rules.specs.Run.{store-length};
 ghost use Rattle.store.specs.Layout.{contents-width};
@@ -23,7 +23,7 @@ ghost use Rattle.class_tables.specs.Built.{cat-of, class-for};
 ghost use Rattle.table.specs.Places.{InShape};
 ghost use Rattle.attribute_write.specs.Lays.{Laying};
 ghost use Rattle.sound_store.specs.Held.{state-in, Sound, Leaves};
-ghost use Rattle.set_command.specs.Sets.{set-contents, refusing, written, live-in, SetAt};
+ghost use Rattle.set_command.specs.Sets.{Judges, bad-at, set-contents, refusing, written, live-in, SetAt};
 
 // Where the values begin in a Set's contents, and where these end.
 const VALUES: usize = 2;
@@ -33,17 +33,53 @@ const VALUES_END: usize = 32;
 // The most bytes that a Set has room for.
 const SET_ROOM: usize = 30;
 
-pub enum SetRefusal {
-    Accepted,
-    // a result alone
-    Result(u8),
-    // attributes that the class doesn't have, and attributes that a Set may not write
-    Failed(u16, u16),
-    // attributes whose content isn't legal
-    Bad(u16),
+// What is wrong with the attributes that a Set names, and with the contents that it carries for them: masks of every bad one, and why.
+pub struct Judged {
+    // those that the class doesn't have
+    pub unsupported: u16,
+    // those that a Set may not write; if contents could be judged, those whose content isn't legal
+    pub failed: u16,
+    // is any unsupported or unwritable? Then the values can't be told apart, and none is judged.
+    pub barred: bool,
+    // do the values take more bytes than a Set has room for? Then none is judged either.
+    pub long: bool,
 }
 
-// The first of the results of a Set that applies to an instance whose contents begin at a place; nothing is changed here.
+pub enum SetRefusal {
+    Accepted,
+    NothingNamed,
+    TooLong,
+    // attributes that the class doesn't have, and attributes that a Set may not write or whose content isn't legal
+    Failed(u16, u16),
+}
+
+// Judges what a Set names and carries for an instance whose contents begin at a place.
+fn judge_set(b: &[u8], product: Product, class: u16, at: usize, asked: u16, v: &[u8]) -> Judged
+    requires { ⌜ InShape (now b) × (at + contents-width (class-for product class) ≤ length (now b)) × (length (now v) ≡ 30) ⌝ }
+    ensures { λ r. ⌜ Judges (class-for product class) asked (bad-at product class at asked (now (v .entry)) (now (b .entry))) r ⌝ }
+{
+    let unsupported = mask_tests::unsupported(product, class, asked);
+    let unwritable = mask_tests::unwritable(product, class, asked);
+    let barred = (unsupported != 0) | (unwritable != 0);
+    let long = mask_tests::total_size(product, class, asked) > SET_ROOM;
+    if barred | long {
+        return Judged {
+            unsupported: unsupported,
+            failed: unwritable,
+            barred: barred,
+            long: long,
+        };
+    }
+    let bad = attribute_check::bad_mask(b, product, class, asked, v, b, at);
+    Judged {
+        unsupported: unsupported,
+        failed: bad,
+        barred: barred,
+        long: long,
+    }
+}
+
+// What refuses a Set of an instance whose contents begin at a place; nothing is changed here.
 fn set_refusal(
     b: &[u8],
     product: Product,
@@ -56,19 +92,14 @@ fn set_refusal(
     ensures { λ r. ⌜ set-contents r ≡ refusing product class at asked (now (v .entry)) (now (b .entry)) ⌝ }
 {
     if asked == 0 {
-        return SetRefusal::Result(BAD_PARAMETER);
+        return SetRefusal::NothingNamed;
     }
-    let missing = mask_tests::unsupported(product, class, asked);
-    let fixed = mask_tests::unwritable(product, class, asked);
-    if (missing != 0) | (fixed != 0) {
-        return SetRefusal::Failed(missing, fixed);
+    let found = judge_set(b, product, class, at, asked, v);
+    if !found.barred & found.long {
+        return SetRefusal::TooLong;
     }
-    if mask_tests::total_size(product, class, asked) > SET_ROOM {
-        return SetRefusal::Result(BAD_PARAMETER);
-    }
-    let bad = attribute_check::bad_mask(b, product, class, asked, v, b, at);
-    if bad != 0 {
-        return SetRefusal::Bad(bad);
+    if (found.unsupported != 0) | (found.failed != 0) {
+        return SetRefusal::Failed(found.unsupported, found.failed);
     }
     SetRefusal::Accepted
 }
@@ -84,23 +115,14 @@ fn write_set(b: &mut [u8], product: Product, class: u16, at: usize, asked: u16, 
     }
 }
 
-// The reply to a Set that names attributes that it can't write.
-fn put_failed(out: &mut [u8], missing: u16, fixed: u16)
+// The reply to a Set that fails by its attributes: those that the class doesn't have, and those that may not be written or have bad contents.
+fn put_failed(out: &mut [u8], unsupported: u16, failed: u16)
     requires { ⌜ now out ≡ replicate 32 0 ⌝ }
-    ensures { λ _. ⌜ now (out .exit) ≡ fill 32 (attribute-failed ∷ bytes 2 missing ++ bytes 2 fixed) ⌝ }
+    ensures { λ _. ⌜ now (out .exit) ≡ fill 32 (attribute-failed ∷ bytes 2 unsupported ++ bytes 2 failed) ⌝ }
 {
     out[0] = ATTRIBUTE_FAILED;
-    octets::put_number(out, 1, missing);
-    octets::put_number(out, 3, fixed);
-}
-
-// The reply to a Set with contents that aren't legal.
-fn put_bad(out: &mut [u8], bad: u16)
-    requires { ⌜ now out ≡ replicate 32 0 ⌝ }
-    ensures { λ _. ⌜ now (out .exit) ≡ fill 32 (bad-parameter ∷ 0 ∷ 0 ∷ bytes 2 bad) ⌝ }
-{
-    out[0] = BAD_PARAMETER;
-    octets::put_number(out, 3, bad);
+    octets::put_number(out, 1, unsupported);
+    octets::put_number(out, 3, failed);
 }
 
 // Answers a Set of an instance whose contents begin at a place of the live table.
@@ -128,9 +150,9 @@ fn set_at(store: &mut [u8], product: Product, class: u16, at: usize, v: &[u8], o
             asked,
             &v[VALUES..VALUES_END],
         ),
-        SetRefusal::Result(r) => out[0] = r,
-        SetRefusal::Failed(missing, fixed) => put_failed(out, missing, fixed),
-        SetRefusal::Bad(bad) => put_bad(out, bad),
+        SetRefusal::NothingNamed => out[0] = BAD_PARAMETER,
+        SetRefusal::TooLong => out[0] = BAD_PARAMETER,
+        SetRefusal::Failed(unsupported, failed) => put_failed(out, unsupported, failed),
     }
 }
 

@@ -1,5 +1,6 @@
 //! An ordinary implementation of the OMCI management engine of document 01,
-//! with the product Meter of document 02 (ticket 10).
+//! with two changes of document 02: a Set says which attributes failed (ticket
+//! 9), and there is the product Meter (ticket 10).
 //!
 //! It is written from the documents alone, in safe Rust, and shares no code
 //! with the proved engine. It serves two ends: the differential tests drive

@@ -84,7 +84,7 @@ fn refused_sets_store_nothing() {
         let mut bench = Bench::new(product);
         // Loopback 1 isn't legal, the other two values are.
         let reply = bench.set(11, 0x0101, 0xB000, &[9, 9, 1]);
-        assert_eq!(reply[..5], [3, 0, 0, 0x10, 0]);
+        assert_eq!(reply[..5], [9, 0, 0, 0x10, 0]);
         assert_eq!(bench.get(11, 0x0101, 0xFC00)[3..9], [0; 6]);
         assert_eq!(bench.counter(), 0);
         // Unsupported and unwritable each have their mask.

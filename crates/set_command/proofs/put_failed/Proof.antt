@@ -22,7 +22,7 @@ put-number-requires c κs =
 put-number-requires-2 : tie.Need-put-number-requires-2
 put-number-requires-2 c κs =
     let f = c .before .before .before .before .before .before in
-    let n = half-failed (f .args .out .now) (f .args .missing) (f .pre) (c .before .before .before .put-number .ensures) in
+    let n = half-failed (f .args .out .now) (f .args .unsupported) (f .pre) (c .before .before .before .put-number .ensures) in
     omega arith
 
 returns : tie.Need-returns

@@ -1,15 +1,14 @@
 use native.Mathlib.Omega.{arith}
-use mathlib.Core.Path.{_≡_, ap}
+use mathlib.Core.Path.{_≡_, refl, ap}
 use lib.ListN.{length}
 use Rattle.sound_store.proofs.Held.{result-alone}
-use Rattle.set_command.proofs.Wrote.{with-result, with-failed, with-bad, accepted-lays, as-accepted}
+use Rattle.set_command.proofs.Wrote.{with-refusal, accepted-lays, as-accepted}
 use borrow.Author.Needs.{needs}
 use Rattle.set_command.proofs.set_at.Statement.{statement}
 use Rattle.set_command.proofs.set_at.Tie as tie
 use Rattle.set_command.proofs.set_at.Reads as reads
 use Rattle.set_command.proofs.set_at.Lts as lts
 use Rattle.octets.proofs.number_at.Reads as number-at-reads
-use Rattle.set_command.proofs.put_bad.Reads as put-bad-reads
 use Rattle.set_command.proofs.put_failed.Reads as put-failed-reads
 use Rattle.set_command.proofs.set_refusal.Reads as set-refusal-reads
 use Rattle.set_command.proofs.write_set.Reads as write-set-reads
@@ -27,9 +26,14 @@ write-set-requires c κs =
 
 slice-write-out : tie.Need-slice-write-out
 slice-write-out c =
-    let f = c .before .before .before .before .before .before .before .before .before .before .before in
-    let a = f .args in
-    let n : length (a .out .now) ≡ 32 = ap length (f .pre .4) in
+    let f = c .before .before .before .before .before .before .before .before .before .before in
+    let n : length (f .args .out .now) ≡ 32 = ap length (f .pre .4) in
+    search needs
+
+slice-write-out-2 : tie.Need-slice-write-out-2
+slice-write-out-2 c =
+    let f = c .before .before .before .before .before .before .before .before .before .before in
+    let n : length (f .args .out .now) ≡ 32 = ap length (f .pre .4) in
     search needs
 
 returns : tie.Need-returns
@@ -43,28 +47,26 @@ returns c =
 
 returns-2 : tie.Need-returns-2
 returns-2 c =
-    let f = c .before .before .before .before .before .before .before .before .before .before .before in
+    let f = c .before .before .before .before .before .before .before .before .before .before in
     let a = f .args in
-    with-result (a .product) (a .class) (a .at) (a .v .now) (a .store .now) (c .before .before .before .before .before .before .before .number-at .ensures)
-    (c .before .before .before .set-refusal .ensures) (c .before .refusal .given .1) (result-alone (a .out .now) _ (f .pre .4))
+    with-refusal (a .product) (a .class) (a .at) (a .v .now) (a .store .now) (c .before .before .before .before .before .before .number-at .ensures)
+    (c .before .before .set-refusal .ensures) refl (c .enum-told2 .given .1) (result-alone (a .out .now) _ (f .pre .4))
 
 returns-3 : tie.Need-returns-3
 returns-3 c =
-    let f = c .before .before .before .before .before .before .before .before .before .before .before .before .before .before .before in
+    let f = c .before .before .before .before .before .before .before .before .before .before in
     let a = f .args in
-    with-failed (a .product) (a .class) (a .at) (a .v .now) (a .store .now)
-    (c .before .before .before .before .before .before .before .before .before .before .before .number-at .ensures)
-    (c .before .before .before .before .before .before .before .set-refusal .ensures) (c .before .before .before .before .before .refusal2 .given .1)
-    (c .before .before .put-failed .ensures)
+    with-refusal (a .product) (a .class) (a .at) (a .v .now) (a .store .now) (c .before .before .before .before .before .before .number-at .ensures)
+    (c .before .before .set-refusal .ensures) refl (c .enum-told3 .given .1) (result-alone (a .out .now) _ (f .pre .4))
 
 returns-4 : tie.Need-returns-4
 returns-4 c =
     let f = c .before .before .before .before .before .before .before .before .before .before .before .before .before .before .before in
     let a = f .args in
-    with-bad (a .product) (a .class) (a .at) (a .v .now) (a .store .now)
+    with-refusal (a .product) (a .class) (a .at) (a .v .now) (a .store .now)
     (c .before .before .before .before .before .before .before .before .before .before .before .number-at .ensures)
-    (c .before .before .before .before .before .before .before .set-refusal .ensures) (c .before .before .before .before .before .refusal3 .given .1)
-    (c .before .before .put-bad .ensures)
+    (c .before .before .before .before .before .before .before .set-refusal .ensures) refl (c .before .before .before .before .before .refusal .given .1)
+    (c .before .before .put-failed .ensures)
 
 pub set-at-spec : {M : Type 1} → statement M
 set-at-spec =
@@ -89,7 +91,7 @@ set-at-spec =
     (λ c. search needs)
     slice-write-out
     (λ c. search needs)
-    (λ c κs. search needs)
+    slice-write-out-2
     (λ c. search needs)
     (λ c κs. search needs)
     (λ c. search needs)

@@ -89,7 +89,8 @@ fn try_delete(store: &mut Store, command: &Command) -> Result<(), Outcome> {
     Ok(())
 }
 
-/// A refused Set: the result, the unsupported mask and the failed mask.
+/// A refused Set: the result, the unsupported mask and the failed mask. The
+/// masks are zero unless the result is 9.
 struct SetRefused {
     outcome: Outcome,
     unsupported: u16,
@@ -140,6 +141,9 @@ fn try_set(store: &mut Store, command: &Command) -> Result<(), SetRefused> {
     Ok(())
 }
 
+/// Every bit of the mask must be of an attribute that a Set may write. This is
+/// asked before the values are looked at: those of unsupported attributes have
+/// no known size, so what lies behind them can't be found.
 fn check_writable(attributes: &[Attribute], mask: u16) -> Result<(), SetRefused> {
     let supported = mask_of(attributes);
     let writable = attributes
@@ -156,6 +160,8 @@ fn check_writable(attributes: &[Attribute], mask: u16) -> Result<(), SetRefused>
     })
 }
 
+/// Every value must be legal. The failed mask names all that aren't; it comes
+/// with result 9, since exchanges read it with no other.
 fn check_values(
     store: &Store,
     class: Class,
@@ -172,7 +178,7 @@ fn check_values(
     if bad == 0 {
         return Ok(());
     }
-    Err(SetRefused { outcome: Outcome::BadParameter, unsupported: 0, failed: bad })
+    Err(SetRefused { outcome: Outcome::AttributeFailed, unsupported: 0, failed: bad })
 }
 
 /// Get. A refused one shows no values and its own mask as zero.
