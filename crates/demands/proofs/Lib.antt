@@ -1,5 +1,6 @@
 pub mod DemandOne
 pub mod Refused
+pub mod SetFailures
 pub mod Repeats
 pub mod Accident
 pub mod AccidentOnBytes
