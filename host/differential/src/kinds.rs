@@ -7,6 +7,7 @@ mod meter;
 mod orders;
 mod rebuild;
 mod runs;
+mod set_failures;
 mod sweeps;
 
 use crate::run::Failure;
@@ -27,9 +28,10 @@ pub struct Kind {
 }
 
 /// All kinds, in the order in which they are run.
-pub const ALL: [Kind; 18] = [
+pub const ALL: [Kind; 19] = [
     Kind { name: "examples", test: examples::test },
     Kind { name: "meter", test: meter::test },
+    Kind { name: "set-failures", test: set_failures::test },
     Kind { name: "lent-sizes", test: sweeps::lent_sizes },
     Kind { name: "headers", test: sweeps::headers },
     Kind { name: "repeats", test: sweeps::repeats },
