@@ -117,17 +117,17 @@ uint8_t gwz_power_on(uint8_t *store, size_t store_len, uint8_t product);
 /*
  * Takes one message from the exchange. A command is answered also if it is
  * refused: the result stands in byte 8 of the reply, and a refused command
- * changes nothing but which command was last. A command whose first 40 bytes
- * equal those of the last one answered is a repeat: it gets the old reply
- * again, and nothing changes. Bytes 44 to 47, the checksum, are ignored.
+ * changes nothing but what is remembered for repeats. A command whose first 40
+ * bytes equal those of the last one answered is a repeat: it gets the old
+ * reply again, and nothing changes. Bytes 44 to 47, the checksum, are ignored.
  *
  * Results, of every command but uploads and alarm walks, which have none:
  *     0  done
  *     1  no place: all 40 are in use (Create)
  *     2  command not supported, or not for this class
  *     3  bad parameter: a Create whose contents aren't legal, with their mask
- *        in bytes 9 and 10; a Set or Get that names no attribute, or more
- *        bytes than there is room for
+ *        in bytes 9 and 10; a Set or Get that names no attribute, or values of
+ *        more than 30 bytes (Set) or 25 (Get)
  *     4  unknown class
  *     5  unknown instance
  *     7  instance exists (Create)
@@ -136,8 +136,10 @@ uint8_t gwz_power_on(uint8_t *store, size_t store_len, uint8_t product);
  *        if there are neither, bytes 11 and 12 name every one whose content
  *        isn't legal, and 9 and 10 are zero. A Get names those that the class
  *        doesn't have in bytes 36 and 37.
- * In a mask of two bytes attribute 1 is the top bit. Masks that a result
- * doesn't fill are zero.
+ * The first that applies is given; of a Set in this order: 4, 2, 5, 3 for no
+ * attribute, 9 for what isn't there or can't be written, 3 for its length, 9
+ * for its contents. In a mask of two bytes attribute 1 is the top bit. Masks
+ * that a result doesn't fill are zero.
  *
  * Returns 0, send the reply; or a drop, 1 to 7.
  */

@@ -31,7 +31,7 @@ fn put_count(out: &mut [u8], at: usize, m: &[u8]) -> usize {
 }
 
 // A Set's result, with the attributes that failed, and why: those in its second mask may not be written, or else have a content that isn't legal.
-// What is writable is asked of Large: every attribute of another product is writable there if it is here (`products/Rights.same-rights-in-large`).
+// What is writable is asked of Large: an attribute of another product is writable there exactly if it is here (`products/Rights.same-W-in-large`).
 fn put_set(out: &mut [u8], at: usize, m: &[u8]) -> usize {
     let class = number_at(m, 4);
     let failed = number_at(m, 11);

@@ -1,4 +1,5 @@
--- Document 02, ticket 9: an exchange that reads the masks of a Set's reply only with result 9 misses none.
+-- Document 02, ticket 9: an exchange that reads the masks of a Set's reply only with result 9 misses none. (What is said is of a Set that is answered
+-- anew: a repeat gets the bytes that are remembered.)
 use Prim.Native.Nat.{ℕ}
 use mathlib.Core.Path.{_≡_, refl}
 use mathlib.Core.Logic.{_≢_}

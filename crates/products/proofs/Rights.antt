@@ -1,5 +1,4 @@
--- Every attribute of a built product may be written if, and only if, Large's may: who has a reply alone can ask Large.
-use Prim.Native.Nat.{ℕ}
+-- Every attribute of a built product may be written exactly if Large's may: who has a reply alone can ask Large.
 use mathlib.Core.Path.{_≡_, refl}
 use mathlib.Core.Bool.{Bool, true, not, cond}
 use Rattle.rules.specs.Maps.{_and_, every}
@@ -8,10 +7,10 @@ use Rattle.rules.specs.Run.{computing-rules}
 use Rattle.rules.specs.Products.{Large, built-products, computing-products}
 
 -- has the second every attribute of the first, and with the same W?
-unfoldable pub same-rights : Catalogue → Catalogue → Bool
-same-rights first second =
+unfoldable pub same-W : Catalogue → Catalogue → Bool
+same-W first second =
     every (λ c k. every (λ n a. supported (class second c) n and cond (a .W) (attribute (class second c) n .W) (not (attribute (class second c) n .W))) (k .attributes)) (first .classes)
 
-pub same-rights-in-large : every (λ n cat. same-rights cat Large) built-products ≡ true
-unfolding computing-rules computing-products same-rights
-same-rights-in-large = refl
+pub same-W-in-large : every (λ n cat. same-W cat Large) built-products ≡ true
+unfolding computing-rules computing-products same-W
+same-W-in-large = refl

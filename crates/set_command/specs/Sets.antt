@@ -34,7 +34,8 @@ barred k m = not (empty (unsupported k (named m)) and empty (unwritable k (named
 abbrev pub too-long : Class → ℕ → Bool
 too-long k m = ltb 30 (total (size-of k) (named m))
 
--- what the code answers about a Set with mask m of class k, which carries bad contents for these attributes: every bad one, and why
+-- what the code answers about a Set with mask m of class k: `bad`, the attributes whose contents aren't legal, are reported if none is unsupported or unwritable
+-- and the values fit
 pub record Judges (k : Class) (m : ℕ) (bad : List ℕ) (j : Judged) : Type 0 where
   pub are-unsupported : j .unsupported ≡ mask (unsupported k (named m))
   pub are-failed : j .failed ≡ mask (cond (barred k m or too-long k m) (unwritable k (named m)) bad)

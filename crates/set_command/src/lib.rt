@@ -33,15 +33,15 @@ const VALUES_END: usize = 32;
 // The most bytes that a Set has room for.
 const SET_ROOM: usize = 30;
 
-// What is wrong with the attributes that a Set names, and with the contents that it carries for them: masks of every bad one, and why.
+// What is wrong with a Set: every attribute that it may not name, or, if there is none and the values fit, every one whose content isn't legal.
 pub struct Judged {
     // those that the class doesn't have
     pub unsupported: u16,
-    // those that a Set may not write; if contents could be judged, those whose content isn't legal
+    // those that a Set may not write; where contents are judged, those whose content isn't legal
     pub failed: u16,
-    // is any unsupported or unwritable? Then the values can't be told apart, and none is judged.
+    // is any unsupported or unwritable? Then only these show, and no content is judged: behind an unsupported one it couldn't even be found.
     pub barred: bool,
-    // do the values take more bytes than a Set has room for? Then none is judged either.
+    // do the values take more bytes than a Set has room for? Then no content is judged either.
     pub long: bool,
 }
 
