@@ -31,11 +31,19 @@ fn refused(result: u8, first: u16, second: u16) -> [u8; 32] {
     contents
 }
 
-/// Whatever a Set could have written, and the counter.
-fn read_out(bench: &mut Bench) -> Vec<[u8; 32]> {
-    [(UNI, 0xFC00), (PROFILE, 0xFE00), (CONFIGURATION, 0xFC00), (PORT, 0xFF00), ((2, 0), 0x8000)]
+/// The first UNI, the bridge and the port as the product has them, and the
+/// counter.
+fn read_out(bench: &mut Bench, product: u8) -> Vec<[u8; 32]> {
+    let (uni, port) = if product == LARGE { (0xFFF8, 0xFF80) } else { (0xFC00, 0xFF00) };
+    [(UNI, uni), (PROFILE, 0xFE00), (CONFIGURATION, 0xFC00), (PORT, port), ((2, 0), 0x8000)]
         .map(|((class, instance), mask)| bench.get(class, instance, mask))
         .to_vec()
+}
+
+/// The Sets with bad contents that a product can be sent.
+fn bad_sets(product: u8) -> impl Iterator<Item = &'static Bad> {
+    let further = if product == LARGE { &BAD_IN_LARGE[..] } else { &[] };
+    BAD.iter().chain(further)
 }
 
 /// Sets with bad contents: the instance, the mask, the values, the bad bits.
@@ -74,8 +82,7 @@ const BAD_IN_LARGE: [Bad; 5] = [
 fn every_bad_bit_shows() {
     for product in BOTH {
         let mut bench = furnished(product);
-        let further = if product == LARGE { &BAD_IN_LARGE[..] } else { &[] };
-        for &((class, instance), mask, values, bad) in BAD.iter().chain(further) {
+        for &((class, instance), mask, values, bad) in bad_sets(product) {
             let contents = bench.set(class, instance, mask, values);
             assert_eq!(contents, refused(9, 0, bad), "{class} {mask:04X} {values:?}");
         }
@@ -101,7 +108,7 @@ fn limits_are_those_of_a_create() {
 
 #[test]
 fn bad_bits_hide_behind_unsupported_and_unwritable_ones() {
-    // The mask, values of which one is bad, and the same with a good one.
+    // The mask, values of which at least one is bad, and good ones.
     type Hidden = ((u16, u16), u16, &'static [u8], &'static [u8], [u8; 32]);
     let small: [Hidden; 8] = [
         (UNI, 0x1200, &[1], &[3], refused(9, 0x0200, 0)),
@@ -167,7 +174,7 @@ fn no_set_carries_over_30_bytes_of_values() {
 fn a_create_with_bad_contents_keeps_3() {
     for product in BOTH {
         let mut bench = furnished(product);
-        let before = read_out(&mut bench);
+        let before = read_out(&mut bench, product);
         let bridge = [2, 2, 2, 9, 9, 0x05, 0xFF, 0x00, 0xFF, 0x1E, 0x01];
         assert_eq!(bench.command(CREATE, 45, 4, &bridge), refused(3, 0xEE00, 0));
         let port = [0, 3, 1, 1, 1, 1, 1, 0, 0, 0, 2, 2, 2];
@@ -175,7 +182,7 @@ fn a_create_with_bad_contents_keeps_3() {
         assert_eq!(bench.command(CREATE, 45, 3, &bridge), refused(7, 0, 0));
         assert_eq!(bench.get(45, 4, 0x8000)[0], 5);
         assert_eq!(bench.get(47, 8, 0x8000)[0], 5);
-        assert_eq!(read_out(&mut bench), before);
+        assert_eq!(read_out(&mut bench, product), before);
     }
 }
 
@@ -183,11 +190,12 @@ fn a_create_with_bad_contents_keeps_3() {
 fn bad_contents_store_nothing() {
     for product in BOTH {
         let mut bench = furnished(product);
-        let before = read_out(&mut bench);
+        let before = read_out(&mut bench, product);
+        assert!(before.iter().all(|contents| contents[0] == 0));
         assert_eq!(before[4][3], 2);
-        for ((class, instance), mask, values, _) in BAD {
+        for &((class, instance), mask, values, _) in bad_sets(product) {
             assert_eq!(bench.set(class, instance, mask, values)[0], 9);
-            assert_eq!(read_out(&mut bench), before);
+            assert_eq!(read_out(&mut bench, product), before);
         }
     }
 }

@@ -2,8 +2,10 @@
 //! bad contents, are sorted and counted. The list below has every sort that
 //! documents 01 and 02 (ticket 9) leave; each must be met, and no other.
 //!
-//! An answer is sorted by the product, the call and the reply alone, with a table
-//! of rights of its own, so that neither engine has a say in what is right.
+//! An answer is judged by the product, the call and a table of rights of its own,
+//! and compared whole. The reply is believed about three things: which created
+//! instances are there, that a Create's instance exists, and a port's pointers,
+//! TPType and attribute 9. A Create that is bad in these alone isn't counted.
 
 mod messages;
 mod rights;

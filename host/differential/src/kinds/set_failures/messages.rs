@@ -9,7 +9,7 @@ use ordinary_engine::catalogue::Product;
 use super::rights::{numbers, range, rights, size};
 
 /// A content of an attribute, by its lowest and its highest legal one. Where
-/// nothing is smaller or larger, it is another legal one.
+/// nothing is smaller or larger the number wraps round, and may be legal or not.
 #[derive(Clone, Copy)]
 enum Content {
     Lowest,

@@ -30,8 +30,8 @@ pub fn is_there(product: Product, class: u16, instance: u16) -> Option<bool> {
     }
 }
 
-/// The bytes of an attribute. Of class 46 nothing can be written, so nobody
-/// looks for its values.
+/// The bytes of an attribute. Of class 46 nothing can be written, so its sizes
+/// don't matter.
 pub fn size(class: u16, attribute: u8) -> usize {
     match (class, attribute) {
         (11, 8 | 10) | (45, 4..=7) | (47, 1 | 4..=6) => 2,
