@@ -1,10 +1,10 @@
 pub mod DemandOne
 pub mod Refused
-pub mod SetFailures
 pub mod Repeats
 pub mod Accident
 pub mod AccidentOnBytes
 pub mod AccidentExample
+pub mod SetFailures
 pub mod Sets
 pub mod Gets
 pub mod Creates

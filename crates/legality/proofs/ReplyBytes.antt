@@ -1,12 +1,12 @@
 -- Every reply and notification is 48 bytes.
 use Prim.Native.Nat.{ℕ, _+_, _<_}
 use native.Mathlib.Omega.{arith}
-use mathlib.Core.Path.{_≡_, refl}
+use mathlib.Core.Path.{_≡_, refl, sym, _∙_, ap}
 use mathlib.Core.Bool.{true}
 use mathlib.Core.Option.{none}
 use mathlib.Core.List.{List, [], _∷_, _++_}
 use lib.ListN.{length, take, drop, length-append, length-drop}
-use lib.Seq.{length-take-le, getD-take}
+use lib.Seq.{length-take-le, getD-take, getD-drop}
 use Rattle.rules.specs.Maps.{first-that-applies}
 use Rattle.rules.specs.Bytes.{byte, bytes, fill, are-bytes}
 use Rattle.rules.specs.Catalogue.{Source, stored, of-creator, count-of, Catalogue, class, attribute, leader}
@@ -92,15 +92,20 @@ first-of-fill : (c : List ℕ) (rest : List ℕ) → byte (fill 32 c ++ rest) 0 
 first-of-fill [] rest = refl
 first-of-fill (x ∷ c) rest = refl
 
+-- behind the first eight bytes of a reply stand its contents
+pub the-contents-follow-byte-7 : (m c : List ℕ) → length m ≡ 48 → drop 8 (reply-to m c) ≡ fill 32 c ++ (trailer ++ checksum)
+unfolding reply-to framed
+the-contents-follow-byte-7 (x₀ ∷ x₁ ∷ x₂ ∷ x₃ ∷ x₄ ∷ x₅ ∷ x₆ ∷ x₇ ∷ m) c e = refl
+the-contents-follow-byte-7 [] c e = absurd (omega arith)
+the-contents-follow-byte-7 (x₀ ∷ []) c e = absurd (omega arith)
+the-contents-follow-byte-7 (x₀ ∷ x₁ ∷ []) c e = absurd (omega arith)
+the-contents-follow-byte-7 (x₀ ∷ x₁ ∷ x₂ ∷ []) c e = absurd (omega arith)
+the-contents-follow-byte-7 (x₀ ∷ x₁ ∷ x₂ ∷ x₃ ∷ []) c e = absurd (omega arith)
+the-contents-follow-byte-7 (x₀ ∷ x₁ ∷ x₂ ∷ x₃ ∷ x₄ ∷ []) c e = absurd (omega arith)
+the-contents-follow-byte-7 (x₀ ∷ x₁ ∷ x₂ ∷ x₃ ∷ x₄ ∷ x₅ ∷ []) c e = absurd (omega arith)
+the-contents-follow-byte-7 (x₀ ∷ x₁ ∷ x₂ ∷ x₃ ∷ x₄ ∷ x₅ ∷ x₆ ∷ []) c e = absurd (omega arith)
+
 -- byte 8 of a reply is the first of its contents
 pub the-result-is-byte-8 : (m c : List ℕ) → length m ≡ 48 → byte (reply-to m c) 8 ≡ byte c 0
-unfolding reply-to framed
-the-result-is-byte-8 (x₀ ∷ x₁ ∷ x₂ ∷ x₃ ∷ x₄ ∷ x₅ ∷ x₆ ∷ x₇ ∷ m) c e = first-of-fill c _
-the-result-is-byte-8 [] c e = absurd (omega arith)
-the-result-is-byte-8 (x₀ ∷ []) c e = absurd (omega arith)
-the-result-is-byte-8 (x₀ ∷ x₁ ∷ []) c e = absurd (omega arith)
-the-result-is-byte-8 (x₀ ∷ x₁ ∷ x₂ ∷ []) c e = absurd (omega arith)
-the-result-is-byte-8 (x₀ ∷ x₁ ∷ x₂ ∷ x₃ ∷ []) c e = absurd (omega arith)
-the-result-is-byte-8 (x₀ ∷ x₁ ∷ x₂ ∷ x₃ ∷ x₄ ∷ []) c e = absurd (omega arith)
-the-result-is-byte-8 (x₀ ∷ x₁ ∷ x₂ ∷ x₃ ∷ x₄ ∷ x₅ ∷ []) c e = absurd (omega arith)
-the-result-is-byte-8 (x₀ ∷ x₁ ∷ x₂ ∷ x₃ ∷ x₄ ∷ x₅ ∷ x₆ ∷ []) c e = absurd (omega arith)
+the-result-is-byte-8 m c e =
+    sym (getD-drop 8 (reply-to m c) 0 0) ∙ ap (λ (l : List ℕ). byte l 0) (the-contents-follow-byte-7 m c e) ∙ first-of-fill c (trailer ++ checksum)

@@ -16,7 +16,7 @@ use Rattle.rules.proofs.Laws.{cases, never, both, not-false, eqb-true, eqb-fals
 use Rattle.legality.proofs.Refusals.{NoneApplies, none-applies}
 use Rattle.bits.proofs.Masks.{none-in}
 use Rattle.set_command.specs.declared.Judged.{Judged}
-use Rattle.set_command.specs.Sets.{Judges, barred, too-long}
+use Rattle.set_command.specs.Sets.{SetJudged, barred, too-long}
 
 -- not both
 either-not : (a b : Bool) → (not a || not b) ≡ not (a and b)
@@ -58,22 +58,20 @@ module _ (k : Class) (m : ℕ) (bad : List ℕ) where
       long-is : ltb 30 sum ≡ too-long k m
       long-is = ap (ltb 30) total-is
 
-      module _ {t : Bool} (way : ((not (eqb u 0) || not (eqb w 0)) || ltb 30 sum) ≡ t) where
-        way-is : (barred k m or too-long k m) ≡ t
-        unfolding _or_
-        way-is = rw (← barred-is, ← long-is) way
-
-      pub not-judged : ((not (eqb u 0) || not (eqb w 0)) || ltb 30 sum) ≡ true
-          → Judges k m bad (record { «unsupported» = u; «failed» = w; «barred» = not (eqb u 0) || not (eqb w 0); «long» = ltb 30 sum })
-      not-judged e = record { are-unsupported = are-unsupported; are-failed = rw (way-is e) are-unwritable; is-barred = barred-is; is-long = long-is }
-
-      pub all-judged : ((not (eqb u 0) || not (eqb w 0)) || ltb 30 sum) ≡ false → {x : ℕ} → x ≡ mask bad
-          → Judges k m bad (record { «unsupported» = u; «failed» = x; «barred» = not (eqb u 0) || not (eqb w 0); «long» = ltb 30 sum })
-      all-judged e are-bad = record { are-unsupported = are-unsupported; are-failed = rw (way-is e) are-bad; is-barred = barred-is; is-long = long-is }
+      -- the code's answer, whether the contents were judged or not
+      pub as-judged : {t : Bool} → ((not (eqb u 0) || not (eqb w 0)) || ltb 30 sum) ≡ t → {x : ℕ} → x ≡ mask (cond t (unwritable k (named m)) bad)
+          → SetJudged k m bad (record { «unsupported» = u; «failed» = x; «barred» = not (eqb u 0) || not (eqb w 0); «long» = ltb 30 sum })
+      unfolding _or_
+      as-judged e f = record {
+        are-unsupported = are-unsupported;
+        are-failed = rw (← barred-is, ← long-is, e) f;
+        is-barred = barred-is;
+        is-long = long-is;
+      }
 
   -- ---- what it is refused with
 
-  module _ (some-asked : m ≢ 0) {j : Judged} (r : Judges k m bad j) where
+  module _ (some-asked : m ≢ 0) {j : Judged} (r : SetJudged k m bad j) where
     -- which attributes failed: those that may not be written, if any is unsupported or unwritable; else, if they aren't too long, those with bad contents
     failed-if-barred : barred k m ≡ true → j .failed ≡ mask (unwritable k (named m))
     unfolding _or_

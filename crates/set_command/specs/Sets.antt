@@ -18,7 +18,7 @@ use Rattle.attribute_write.specs.Lays.{laid-values}
 use Rattle.table.specs.Counts.{moved-on}
 use Rattle.set_command.specs.declared.Judged.{Judged}
 use Rattle.set_command.specs.declared.SetRefusal.{SetRefusal}
-use Rattle.set_command.specs.declared.SetRefusal.the-variants.{Accepted, NothingNamed, TooLong, Failed}
+use Rattle.set_command.specs.declared.SetRefusal.the-variants.{Accepted, BadParameter, Failed}
 use Rattle.class_tables.specs.declared.Product.{Product}
 use Rattle.store.specs.Layout.{block-length, live-at}
 
@@ -36,7 +36,7 @@ too-long k m = ltb 30 (total (size-of k) (named m))
 
 -- what the code answers about a Set with mask m of class k: `bad`, the attributes whose contents aren't legal, are reported if none is unsupported or unwritable
 -- and the values fit
-pub record Judges (k : Class) (m : ℕ) (bad : List ℕ) (j : Judged) : Type 0 where
+pub record SetJudged (k : Class) (m : ℕ) (bad : List ℕ) (j : Judged) : Type 0 where
   pub are-unsupported : j .unsupported ≡ mask (unsupported k (named m))
   pub are-failed : j .failed ≡ mask (cond (barred k m or too-long k m) (unwritable k (named m)) bad)
   pub is-barred : j .barred ≡ barred k m
@@ -45,8 +45,7 @@ pub record Judges (k : Class) (m : ℕ) (bad : List ℕ) (j : Judged) : Type 0 w
 -- the reply contents that the code's answer about a refusal stands for
 abbrev pub set-contents : SetRefusal → Option (List ℕ)
 set-contents Accepted = none
-set-contents NothingNamed = some (bad-parameter ∷ [])
-set-contents TooLong = some (bad-parameter ∷ [])
+set-contents BadParameter = some (bad-parameter ∷ [])
 set-contents (Failed x y) = some (attribute-failed ∷ bytes 2 x ++ bytes 2 y)
 
 -- what refuses a Set with mask m and values v of the instance of class c whose contents begin at a place of b

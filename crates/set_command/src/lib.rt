@@ -23,7 +23,7 @@ ghost use Rattle.class_tables.specs.Built.{cat-of, class-for};
 ghost use Rattle.table.specs.Places.{InShape};
 ghost use Rattle.attribute_write.specs.Lays.{Laying};
 ghost use Rattle.sound_store.specs.Held.{state-in, Sound, Leaves};
-ghost use Rattle.set_command.specs.Sets.{Judges, bad-at, set-contents, refusing, written, live-in, SetAt};
+ghost use Rattle.set_command.specs.Sets.{SetJudged, bad-at, set-contents, refusing, written, live-in, SetAt};
 
 // Where the values begin in a Set's contents, and where these end.
 const VALUES: usize = 2;
@@ -47,8 +47,8 @@ pub struct Judged {
 
 pub enum SetRefusal {
     Accepted,
-    NothingNamed,
-    TooLong,
+    // it names nothing, or its values have no room
+    BadParameter,
     // attributes that the class doesn't have, and attributes that a Set may not write or whose content isn't legal
     Failed(u16, u16),
 }
@@ -56,7 +56,7 @@ pub enum SetRefusal {
 // Judges what a Set names and carries for an instance whose contents begin at a place.
 fn judge_set(b: &[u8], product: Product, class: u16, at: usize, asked: u16, v: &[u8]) -> Judged
     requires { ⌜ InShape (now b) × (at + contents-width (class-for product class) ≤ length (now b)) × (length (now v) ≡ 30) ⌝ }
-    ensures { λ r. ⌜ Judges (class-for product class) asked (bad-at product class at asked (now (v .entry)) (now (b .entry))) r ⌝ }
+    ensures { λ r. ⌜ SetJudged (class-for product class) asked (bad-at product class at asked (now (v .entry)) (now (b .entry))) r ⌝ }
 {
     let unsupported = mask_tests::unsupported(product, class, asked);
     let unwritable = mask_tests::unwritable(product, class, asked);
@@ -92,11 +92,11 @@ fn set_refusal(
     ensures { λ r. ⌜ set-contents r ≡ refusing product class at asked (now (v .entry)) (now (b .entry)) ⌝ }
 {
     if asked == 0 {
-        return SetRefusal::NothingNamed;
+        return SetRefusal::BadParameter;
     }
     let found = judge_set(b, product, class, at, asked, v);
     if !found.barred & found.long {
-        return SetRefusal::TooLong;
+        return SetRefusal::BadParameter;
     }
     if (found.unsupported != 0) | (found.failed != 0) {
         return SetRefusal::Failed(found.unsupported, found.failed);
@@ -150,8 +150,7 @@ fn set_at(store: &mut [u8], product: Product, class: u16, at: usize, v: &[u8], o
             asked,
             &v[VALUES..VALUES_END],
         ),
-        SetRefusal::NothingNamed => out[0] = BAD_PARAMETER,
-        SetRefusal::TooLong => out[0] = BAD_PARAMETER,
+        SetRefusal::BadParameter => out[0] = BAD_PARAMETER,
         SetRefusal::Failed(unsupported, failed) => put_failed(out, unsupported, failed),
     }
 }

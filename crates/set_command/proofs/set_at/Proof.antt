@@ -30,12 +30,6 @@ slice-write-out c =
     let n : length (f .args .out .now) ≡ 32 = ap length (f .pre .4) in
     search needs
 
-slice-write-out-2 : tie.Need-slice-write-out-2
-slice-write-out-2 c =
-    let f = c .before .before .before .before .before .before .before .before .before .before in
-    let n : length (f .args .out .now) ≡ 32 = ap length (f .pre .4) in
-    search needs
-
 returns : tie.Need-returns
 returns c =
     let f = c .before .before .before .before .before .before .before .before .before .before .before .before .before .before .before in
@@ -54,13 +48,6 @@ returns-2 c =
 
 returns-3 : tie.Need-returns-3
 returns-3 c =
-    let f = c .before .before .before .before .before .before .before .before .before .before in
-    let a = f .args in
-    with-refusal (a .product) (a .class) (a .at) (a .v .now) (a .store .now) (c .before .before .before .before .before .before .number-at .ensures)
-    (c .before .before .set-refusal .ensures) refl (c .enum-told3 .given .1) (result-alone (a .out .now) _ (f .pre .4))
-
-returns-4 : tie.Need-returns-4
-returns-4 c =
     let f = c .before .before .before .before .before .before .before .before .before .before .before .before .before .before .before in
     let a = f .args in
     with-refusal (a .product) (a .class) (a .at) (a .v .now) (a .store .now)
@@ -91,8 +78,6 @@ set-at-spec =
     (λ c. search needs)
     slice-write-out
     (λ c. search needs)
-    slice-write-out-2
-    (λ c. search needs)
     (λ c κs. search needs)
     (λ c. search needs)
     returns
@@ -101,7 +86,4 @@ set-at-spec =
     returns-2
     (λ c. search needs)
     (λ c. search needs)
-    returns-3
-    (λ c. search needs)
-    (λ c. search needs)
-    returns-4)
+    returns-3)
