@@ -2,7 +2,7 @@
 use Prim.Native.Nat.{ℕ, suc, _≤_, _<_}
 use native.Mathlib.Omega.{arith}
 use mathlib.Core.Path.{_≡_, refl, sym, _∙_, ap}
-use mathlib.Core.Bool.{true, false}
+use mathlib.Core.Bool.{Bool, true, false}
 use mathlib.Core.Option.{Option, none, some}
 use mathlib.Core.Logic.{_≢_}
 use mathlib.Core.List.{List, [], _∷_, _++_}
@@ -70,19 +70,17 @@ module _ (pr : Product) (b : List ℕ) (h : Sound pr b) (c i : ℕ) (lt : i < 65
   abbrev r : List ℕ
   r = place (key c i, new)
 
-  held-is : {o : Option ℕ} → position (key c i) (keys-in block) ≡ o → holds cat t c i ≡ is-some o
-  held-is p = made-held pr block t (live-held pr b h) c i lt cr ∙ ap is-some p
+  -- is its key in a place?
+  module _ {found : Bool} (p : found ≡ is-some (position (key c i) (keys-in block))) where
+    pub held-is : holds cat t c i ≡ found
+    held-is = made-held pr block t (live-held pr b h) c i lt cr ∙ sym p
 
-  pub not-held : position (key c i) (keys-in block) ≡ none → holds cat t c i ≡ false
-  not-held p = held-is p
-
-  -- ---- it is there already
-
-  pub exists : {j : ℕ} → position (key c i) (keys-in block) ≡ some j → (out : List ℕ) → out ≡ replicate 32 0 → Leaves pr (create cat s c i v) b b (set out 0 instance-exists)
-  exists p out z = rw (answer p) (record { store = as-stored pr b h; reply = rw z refl })
-    where
-      answer : {j : ℕ} → position (key c i) (keys-in block) ≡ some j → create cat s c i v ≡ (s, instance-exists ∷ [])
-      answer p = unfold create create-results unless-refused first-that-applies in rw (held-is p) refl
+    -- it is there already
+    pub exists : found ≡ true → (out : List ℕ) → out ≡ replicate 32 0 → Leaves pr (create cat s c i v) b b (set out 0 instance-exists)
+    exists e out z = rw answer (record { store = as-stored pr b h; reply = rw z refl })
+      where
+        answer : create cat s c i v ≡ (s, instance-exists ∷ [])
+        answer = unfold create create-results unless-refused first-that-applies in rw (held-is, e) refl
 
   -- ---- what the code finds bad is what the rules do
 
@@ -143,7 +141,7 @@ module _ (pr : Product) (b : List ℕ) (h : Sound pr b) (c i : ℕ) (lt : i < 65
             ap (among (key c i)) (sym (created-keys pr b h)) ∙ sym (position-among (key c i) (keys-in block))
             ∙ sym (made-held pr block t (live-held pr b h) c i lt cr) ∙ free
 
-        put-in : with-place (key c i) r block ≡ live-bytes (move-counter cat made)
+        put-in : with-place (rank (key c i) (keys-in block)) r block ≡ live-bytes (move-counter cat made)
         unfolding with-place
         put-in =
             let moved : laid in-use-at (suc (byte block in-use-at) ∷ []) (inserted (place-at (rank (key c i) (keys-in block))) r block) ≡ live-bytes made =
@@ -161,7 +159,7 @@ module _ (pr : Product) (b : List ℕ) (h : Sound pr b) (c i : ℕ) (lt : i < 65
             not-full : (n m : ℕ) → m < n → leb n m ≡ false
             not-full n m g = cases (leb n m) (λ y. absurd (let z = leb-le n m y in omega arith)) (λ y. y)
 
-        pub accepted : {j : ℕ} {x : List ℕ} → j ≡ key c i → x ≡ with-place j r′ block → (out : List ℕ) → out ≡ replicate 32 0
+        pub accepted : {j : ℕ} {x : List ℕ} → j ≡ rank (key c i) (keys-in block) → x ≡ with-place j r′ block → (out : List ℕ) → out ≡ replicate 32 0
             → Leaves pr (create cat s c i v) b (putMid live-at block-length b x) out
         accepted e f out z = rw answer (record {
           store = ap (putMid live-at block-length b) (f ∙ (λ d. with-place (e d) (is d) block) ∙ put-in)

@@ -129,10 +129,9 @@ rank-small k b e =
     let n = how-many-keys b in
     omega arith
 
-pub put-in-is : (k : ℕ) (r b : List ℕ) {j : ℕ} {x y : List ℕ} → j ≡ rank k (keys-in b) → x ≡ laid in-use-at (suc (byte b in-use-at) ∷ []) (inserted (place-at j) r b)
-    → y ≡ moved-on x → y ≡ with-place k r b
+pub put-in-is : (j : ℕ) (r b : List ℕ) {x y : List ℕ} → x ≡ laid in-use-at (suc (byte b in-use-at) ∷ []) (inserted (place-at j) r b) → y ≡ moved-on x → y ≡ with-place j r b
 unfolding with-place
-put-in-is k r b e f g = g ∙ ap moved-on (f ∙ ap (λ (j : ℕ). laid in-use-at (suc (byte b in-use-at) ∷ []) (inserted (place-at j) r b)) e)
+put-in-is j r b f g = g ∙ ap moved-on f
 
 -- ---- the reply with the bad bits
 

@@ -12,8 +12,7 @@ use Rattle.store.specs.Layout.{key-length, place-width, in-use-at, place-at}
 use Rattle.store.specs.Positions.{inside}
 use Rattle.class_tables.specs.Built.{cat-of, class-for}
 use Rattle.class_tables.specs.declared.Product.{Product}
-use Rattle.table.specs.Spots.{rank, inserted}
-use Rattle.table.specs.Places.{keys-in}
+use Rattle.table.specs.Spots.{inserted}
 use Rattle.table.specs.Counts.{moved-on}
 use Rattle.attribute_write.specs.Lays.{laid-values, firsts, leading-class}
 use Rattle.attribute_check.specs.Judges.{is-in, bad-among}
@@ -50,6 +49,6 @@ bad-carried cat live k r v = bad-among (is-in cat live) k r key-length (carried-
 
 -- ---- one place more
 
--- a place put in where its key belongs, and the counter moved on
+-- a place put in as the j-th, and the counter moved on
 unfoldable pub with-place : ℕ → List ℕ → List ℕ → List ℕ
-with-place key r b = moved-on (laid in-use-at (suc (byte b in-use-at) ∷ []) (inserted (place-at (rank key (keys-in b))) r b))
+with-place j r b = moved-on (laid in-use-at (suc (byte b in-use-at) ∷ []) (inserted (place-at j) r b))

@@ -1,5 +1,4 @@
 // Create: a new instance of a created class, with those that come with it.
-use class_tables::Found;
 use class_tables::Product;
 use class_tables::classes;
 use class_tables::masks;
@@ -15,16 +14,18 @@ use store::layout::PLACE_COUNT;
 use table::counter;
 ghost use mathlib.Core.Path.{_≡_};
 ghost use mathlib.Core.Bool.{true, false};
-ghost use Prim.Native.Nat.{_<_};
+ghost use Prim.Native.Nat.{_<_, _≤_};
 ghost use lib.ListN.{length, replicate};
 ghost use Rattle.rules.specs.Bytes.{byte, fill};
 ghost use Rattle.rules.specs.Masks.{mask};
 ghost use Rattle.rules.specs.Catalogue.{is-created, key};
 ghost use Rattle.rules.specs.State.{holds};
 ghost use Rattle.rules.specs.Commands.{new-entry, carried-by, create};
-ghost use Rattle.store.specs.Layout.{place-count, place-width, place-length, in-use-at, entry-bytes, place};
+ghost use Rattle.store.specs.Layout.{place-count, place-width, place-length, in-use-at, live-at, block-length, entry-bytes, place};
+ghost use Rattle.octets.proofs.Parted.{part};
 ghost use Rattle.class_tables.specs.Built.{cat-of, class-for};
-ghost use Rattle.table.specs.Places.{InShape};
+ghost use Rattle.table.specs.Places.{InShape, keys-in};
+ghost use Rattle.table.specs.Spots.{rank};
 ghost use Rattle.sound_store.specs.Held.{state-in, Sound, Leaves};
 ghost use Rattle.create_command.specs.New.{with-others, unkept-bad, bad-carried, with-place};
 
@@ -106,19 +107,19 @@ fn bad_in_create(live: &[u8], product: Product, class: u16, v: &[u8], r: &[u8]) 
         + unkept_bit(product, class, v)
 }
 
-// Puts a place into a live table, and moves the counter on.
-fn put_in(b: &mut [u8], key: u32, r: &[u8])
-    requires { ⌜ InShape (now b) × (byte (now b) in-use-at < place-count) × (length (now r) ≡ place-length) ⌝ }
-    ensures { λ _. ⌜ now (b .exit) ≡ with-place key (now (r .entry)) (now (b .entry)) ⌝ }
+// Puts a place into a live table as the j-th, and moves the counter on.
+fn put_in(b: &mut [u8], j: usize, r: &[u8])
+    requires { ⌜ InShape (now b) × (byte (now b) in-use-at < place-count) × (j ≤ byte (now b) in-use-at) × (length (now r) ≡ place-length) ⌝ }
+    ensures { λ _. ⌜ now (b .exit) ≡ with-place j (now (r .entry)) (now (b .entry)) ⌝ }
 {
-    let j = table::rank_of(b, key);
     table::insert_place(b, j, r);
     counter::move_counter(b);
 }
 
-// Answers a Create of an instance that isn't there.
+// Answers a Create of an instance that isn't there; its place would be the j-th.
 fn create_absent(
     store: &mut [u8],
+    j: usize,
     product: Product,
     class: u16,
     number: u16,
@@ -126,7 +127,8 @@ fn create_absent(
     out: &mut [u8],
 )
     requires { ⌜ Sound product (now store) × (is-created (class-for product class .creation) ≡ true) × (length (now v) ≡ 32) × (now out ≡ replicate 32 0)
-        × (holds (cat-of product) (state-in product (now store) .table) class number ≡ false) ⌝ }
+        × (holds (cat-of product) (state-in product (now store) .table) class number ≡ false)
+        × (j ≡ rank (key class number) (keys-in (part live-at block-length (now store)))) ⌝ }
     ensures { λ _. ⌜ Leaves product (create (cat-of product) (state-in product (now (store .entry))) class number (now (v .entry))) (now (store .entry)) (now (store .exit)) (now (out .exit)) ⌝ }
 {
     let mut r = [0u8; PLACE];
@@ -141,21 +143,19 @@ fn create_absent(
         out[0] = NO_PLACE;
         return;
     }
-    put_in(
-        &mut store[LIVE_AT..LIVE_END],
-        octets::key_of(class, number),
-        &r,
-    );
+    put_in(&mut store[LIVE_AT..LIVE_END], j, &r);
 }
 
-// Answers a Create of an instance of a created class.
+// Answers a Create of an instance of a created class. One search tells whether it is there, and where it would be put.
 pub fn create(store: &mut [u8], product: Product, class: u16, number: u16, v: &[u8], out: &mut [u8])
     requires { ⌜ Sound product (now store) × (is-created (class-for product class .creation) ≡ true) × (length (now v) ≡ 32) × (now out ≡ replicate 32 0) ⌝ }
     ensures { λ _. ⌜ Leaves product (create (cat-of product) (state-in product (now (store .entry))) class number (now (v .entry))) (now (store .entry)) (now (store .exit)) (now (out .exit)) ⌝ }
 {
-    let found = table::place_of(&store[LIVE_AT..LIVE_END], octets::key_of(class, number));
-    match found {
-        Found::At(_) => out[0] = INSTANCE_EXISTS,
-        Found::Nothing => create_absent(store, product, class, number, v, out),
+    let key = octets::key_of(class, number);
+    let j = table::rank_of(&store[LIVE_AT..LIVE_END], key);
+    if table::has_key(&store[LIVE_AT..LIVE_END], key, j) {
+        out[0] = INSTANCE_EXISTS;
+        return;
     }
+    create_absent(store, j, product, class, number, v, out);
 }

@@ -50,7 +50,8 @@ position-found k j m h = find-some k m (has-among k m ∙ sym (position-among k 
 
 -- ---- in a rising list
 
-up-at : (b j : ℕ) (l : List ℕ) → Up b l → j < length l → b ≤ getD l j 0
+-- no number of it is below its bound
+pub up-at : (b j : ℕ) (l : List ℕ) → Up b l → j < length l → b ≤ getD l j 0
 up-at b j [] u h = absurd (omega arith)
 up-at b zero (x ∷ l) u h = u .0
 up-at b (suc j) (x ∷ l) u h = let y = u .0 in let z = up-at (suc x) j l (u .1) (omega arith) in omega arith

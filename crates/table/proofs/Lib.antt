@@ -15,3 +15,4 @@ pub mod Located
 pub mod HeldAt
 pub mod SpotRoom
 pub mod Counted
+pub mod Ranks

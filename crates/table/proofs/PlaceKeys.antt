@@ -77,12 +77,6 @@ module _ (cat : Catalogue) (wf : WellFormed cat) (ft : fits cat ≡ true) (u : T
   unfolding code-table
   count-read = getD-at x (length (u .created)) (fill slots-length (gather slot (u .automatic)) ++ fill places-length (gather place (u .created))) 0 1 lx
 
-  pub in-shape : InShape (fronted x u)
-  in-shape = record {
-    long = length-append x (code-table u) ∙ omega (arith, table-has-its-length u);
-    few = rw count-read (omega (arith, h .in-places, places-are-enough cat ft));
-  }
-
   -- the zeros behind the places in use
   unused : List ℕ
   unused = take (places-length - length (gather place (u .created))) (replicate places-length 0)
@@ -106,6 +100,13 @@ module _ (cat : Catalogue) (wf : WellFormed cat) (ft : fits cat ≡ true) (u : T
     places-back cat wf ft (u .created) unused (h .all-created)
         (h .created-legal),
   )
+
+  pub in-shape : InShape (fronted x u)
+  in-shape = record {
+    long = length-append x (code-table u) ∙ omega (arith, table-has-its-length u);
+    few = rw count-read (omega (arith, h .in-places, places-are-enough cat ft));
+    rise = rw keys-read (h .rise);
+  }
 
   module _ (d a i : ℕ) (st : among a (stored-numbers (class cat d)) ≡ true) (z : size-of (class cat d) a ≡ 2) where
     -- a place of class d holds the attribute's content

@@ -1,21 +1,18 @@
 -- The loops over the places in use: what one turn shows of the answer, and what the end shows.
-use Prim.Native.Nat.{ℕ, suc, _+_, _-_, _≤_, _<_}
+use Prim.Native.Nat.{ℕ, zero, suc, _+_, _-_, _≤_, _<_}
 use native.Mathlib.Nat.{add-assoc, add-zero}
 use native.Mathlib.Omega.{arith}
 use mathlib.Core.Path.{_≡_, refl, sym, _∙_, ap}
 use mathlib.Core.Bool.{true}
-use mathlib.Core.Option.{Option, none, some}
 use mathlib.Core.List.{List, [], _∷_}
-use lib.ListN.{take, drop}
+use lib.ListN.{take, drop, getD}
 use lib.Seq.{getD-take, getD-drop, drop-drop}
 use lib.Dec.{eqb}
 use Rattle.rules.specs.Maps.{_and_}
 use Rattle.rules.specs.Bytes.{byte, two}
 use Rattle.rules.specs.Catalogue.{key}
-use Rattle.rules.proofs.Laws.{eqb-true, eqb-false, lt-ltb, le-ltb}
+use Rattle.rules.proofs.Laws.{eqb-true, eqb-false}
 use Rattle.store.specs.Layout.{place-length, place-at, in-use-at, places-at, key-length}
-use Rattle.store.specs.Positions.{one-on, position}
-use Rattle.table.specs.Spots.{rank, at-position}
 use Rattle.table.specs.Places.{place-keys, keys-in, one-holds, how-many-hold}
 
 pub two-drop : (b : List ℕ) (at k : ℕ) → two (drop at b) k ≡ two b (at + k)
@@ -53,47 +50,19 @@ module _ (b : List ℕ) (n i : ℕ) where
       let m : two (take place-length d) 2 ≡ two b (place-at i + 2) = two-take place-length d 2 (omega arith) ∙ two-drop b (place-at i) 2 in
       rw (e, c, m, drop-drop place-length (place-at i) b, f)
 
--- ---- the place of a key
+-- ---- the key of a place among the keys
 
--- a position counted from the i-th place on
-abbrev pub counted : ℕ → Option ℕ → Option ℕ
-counted i o = at-position (λ j. i + j) o
+key-from : (b : List ℕ) (n i j : ℕ) → j + i < n → getD (keys-from b n j) i 0 ≡ key-of b (j + i)
+key-from b n zero j h = ap (λ (l : List ℕ). getD l 0 0) (keys-next b n j (omega arith)) ∙ ap (key-of b) (sym (add-zero j))
+key-from b n (suc i) j h =
+    let z : j + 1 + i ≡ j + suc i = omega arith in
+    ap (λ (l : List ℕ). getD l (suc i) 0) (keys-next b n j (omega arith)) ∙ key-from b n i (j + 1) (omega arith) ∙ ap (key-of b) z
 
-pub counted-start : (o : Option ℕ) → counted 0 o ≡ o
-counted-start none = refl
-counted-start (some j) = ap some (omega arith)
-
-counted-on : (i : ℕ) (o : Option ℕ) → counted (i + 1) o ≡ counted i (one-on o)
-counted-on i none = refl
-counted-on i (some j) = ap some (omega arith)
-
-module _ (b : List ℕ) (n i k : ℕ) (z : Option ℕ) (e : counted i (position k (keys-from b n i)) ≡ z) where
-  pub found-here : i < n → k ≡ key-of b i → some i ≡ z
-  unfolding position
-  found-here h q = ap some (sym (add-zero i)) ∙ (rw (keys-next b n i h, eqb-true k (key-of b i) q) at e)
-
-  pub found-later : i < n → (k ≡ key-of b i → ⊥) → counted (i + 1) (position k (keys-from b n (i + 1))) ≡ z
-  unfolding position
-  found-later h q = counted-on i (position k (keys-from b n (i + 1))) ∙ (rw (keys-next b n i h, eqb-false k (key-of b i) q) at e)
-
-  pub found-nowhere : n ≤ i → none ≡ z
-  unfolding position
-  found-nowhere h = rw (keys-end b n i h) at e
-
--- ---- the rank of a key
-
-module _ (b : List ℕ) (n i k : ℕ) where
-  pub rank-here : i < n → k < key-of b i → rank k (keys-from b n i) ≡ 0
-  unfolding rank
-  rank-here h q = rw (keys-next b n i h, lt-ltb k (key-of b i) q)
-
-  pub rank-later : i < n → key-of b i ≤ k → rank k (keys-from b n i) ≡ suc (rank k (keys-from b n (i + 1)))
-  unfolding rank
-  rank-later h q = rw (keys-next b n i h, le-ltb k (key-of b i) q)
-
-  pub rank-end : n ≤ i → rank k (keys-from b n i) ≡ 0
-  unfolding rank
-  rank-end h = rw (keys-end b n i h)
+pub key-there : (b : List ℕ) (j : ℕ) → j < byte b in-use-at → getD (keys-in b) j 0 ≡ key-of b j
+key-there b j h =
+    let n : ℕ = byte b in-use-at in
+    let z : 0 + j ≡ j = omega arith in
+    ap (λ (l : List ℕ). getD l j 0) (sym (keys-start b n refl)) ∙ key-from b n j 0 (omega arith) ∙ ap (key-of b) z
 
 -- ---- how many hold a number
 

@@ -1,5 +1,5 @@
 -- Where an instance's contents stand in the bytes of a table.
-use Prim.Native.Nat.{ℕ, suc, _+_, _-_}
+use Prim.Native.Nat.{ℕ, suc, _+_, _-_, _≤_, _<_}
 use mathlib.Core.Bool.{cond}
 use mathlib.Core.Option.{Option, none, some}
 use mathlib.Core.List.{List, [], _∷_, _++_}
@@ -16,6 +16,11 @@ use Rattle.store.specs.Layout.{key-length, slot-at, place-at}
 unfoldable pub rank : ℕ → List ℕ → ℕ
 rank k [] = 0
 rank k (x ∷ l) = cond (ltb k x) 0 (suc (rank k l))
+
+-- so far as is known: the rank of k is low or up to by - 1 more
+pub record Ranked (low by k : ℕ) (l : List ℕ) : Type 0 where
+  pub past : low ≤ rank k l
+  pub near : rank k l < low + by
 
 abbrev pub at-position : (ℕ → ℕ) → Option ℕ → Option ℕ
 at-position f none = none

@@ -12,10 +12,11 @@ ghost use mathlib.Core.Path.{_≡_};
 ghost use mathlib.Core.List.{[], _∷_};
 ghost use Prim.Native.Nat.{suc, _+_, _-_, _<_, _≤_};
 ghost use lib.ListN.{length, take, drop};
+ghost use Rattle.rules.specs.Maps.{is-some};
 ghost use Rattle.rules.specs.Bytes.{byte, laid};
 ghost use Rattle.store.specs.Layout.{place-count, place-width, place-length, place-at, in-use-at, places-at};
 ghost use Rattle.store.specs.Positions.{position};
-ghost use Rattle.table.specs.Spots.{rank, inserted, removed};
+ghost use Rattle.table.specs.Spots.{rank, Ranked, inserted, removed};
 ghost use Rattle.table.specs.Places.{InShape, keys-in, how-many-hold, chosen};
 ghost use Rattle.class_tables.specs.Finding.{found-of};
 
@@ -33,36 +34,56 @@ pub fn in_use(b: &[u8]) -> usize
     octets::wide(b[IN_USE]) as usize
 }
 
-// Which place has a key, if one has.
-pub fn place_of(b: &[u8], key: u32) -> Found
-    requires { ⌜ InShape (now b) ⌝ }
-    ensures { λ r. ⌜ found-of r ≡ position key (keys-in (now (b .entry))) ⌝ }
+// Of a key whose rank is `low` or up to `by + by - 1` more: a lower bound that leaves half as many. One look at a key tells which half.
+fn past(b: &[u8], n: usize, low: usize, by: usize, key: u32) -> usize
+    requires { ⌜ InShape (now b) × (n ≡ byte (now b) in-use-at) × (1 ≤ by) × (by ≤ place-count) × Ranked low (by + by) key (keys-in (now b)) ⌝ }
+    ensures { λ r. ⌜ Ranked r by key (keys-in (now (b .entry))) ⌝ }
 {
-    let n = in_use(b);
-    let mut i = 0;
-    while i < n {
-        if key == octets::key_at(b, PLACES + PLACE * i) {
-            return Found::At(i);
+    let next = low + by;
+    if next <= n {
+        if octets::key_at(b, PLACES + PLACE * (next - 1)) <= key {
+            return next;
         }
-        i += 1;
     }
-    Found::Nothing
+    low
 }
 
-// How many places, whose keys rise, come before a key: where an instance of this key is put in.
+// How many places, whose keys rise, come before a key or have it: where an instance of this key is put in. The search halves in six
+// looks, which is as many as 40 places need: without a loop each is a few instructions (docs/SPEED.md).
 pub fn rank_of(b: &[u8], key: u32) -> usize
     requires { ⌜ InShape (now b) ⌝ }
     ensures { λ r. ⌜ r ≡ rank key (keys-in (now (b .entry))) ⌝ }
 {
     let n = in_use(b);
-    let mut i = 0;
-    while i < n {
-        if key < octets::key_at(b, PLACES + PLACE * i) {
-            return i;
-        }
-        i += 1;
+    let to_32 = past(b, n, 0, 32, key);
+    let to_16 = past(b, n, to_32, 16, key);
+    let to_8 = past(b, n, to_16, 8, key);
+    let to_4 = past(b, n, to_8, 4, key);
+    let to_2 = past(b, n, to_4, 2, key);
+    past(b, n, to_2, 1, key)
+}
+
+// Has a place this key, whose rank is j? It would be the last of those that come before the rank.
+pub fn has_key(b: &[u8], key: u32, j: usize) -> bool
+    requires { ⌜ InShape (now b) × (j ≡ rank key (keys-in (now b))) ⌝ }
+    ensures { λ r. ⌜ r ≡ is-some (position key (keys-in (now (b .entry)))) ⌝ }
+{
+    if j == 0 {
+        return false;
     }
-    n
+    key == octets::key_at(b, PLACES + PLACE * (j - 1))
+}
+
+// Which place has a key, if one has.
+pub fn place_of(b: &[u8], key: u32) -> Found
+    requires { ⌜ InShape (now b) ⌝ }
+    ensures { λ r. ⌜ found-of r ≡ position key (keys-in (now (b .entry))) ⌝ }
+{
+    let j = rank_of(b, key);
+    if has_key(b, key, j) {
+        return Found::At(j - 1);
+    }
+    Found::Nothing
 }
 
 // How many places are of a class and hold a number in two bytes of their contents.

@@ -20,21 +20,13 @@ use Rattle.class_tables.specs.Built.{cat-of}
 use Rattle.class_tables.proofs.SlotLaws.{few-slots}
 use Rattle.table.specs.Places.{InShape, keys-in}
 use Rattle.table.proofs.Located.{place-keys-length}
-use Rattle.table.proofs.Turns.{keys-from, key-of, keys-start, keys-next}
+use Rattle.table.proofs.Turns.{key-of, key-there}
 use Rattle.upload_sections.specs.Sections.{entry-keys, numbers-in, entry-begin}
 use Rattle.class_tables.specs.declared.Product.{Product}
 use Rattle.store.specs.Positions.{inside}
 use mathlib.Core.Option.{some}
 use Rattle.rules.proofs.MapLaws.{none-some, some-eq}
 use Rattle.rules.proofs.ByteLaws.{drop-next}
-
--- ---- the keys in the bytes
-
-key-from : (b : List ℕ) (n i j : ℕ) → j + i < n → getD (keys-from b n j) i 0 ≡ key-of b (j + i)
-key-from b n zero j h = ap (λ (l : List ℕ). getD l 0 0) (keys-next b n j (omega arith)) ∙ ap (key-of b) (sym (add-zero j))
-key-from b n (suc i) j h =
-    let z : j + 1 + i ≡ j + suc i = omega arith in
-    ap (λ (l : List ℕ). getD l (suc i) 0) (keys-next b n j (omega arith)) ∙ key-from b n i (j + 1) (omega arith) ∙ ap (key-of b) z
 
 module _ (pr : Product) (b : List ℕ) where
   abbrev pub all-keys : List ℕ
@@ -64,10 +56,7 @@ module _ (pr : Product) (b : List ℕ) where
         let j : ℕ = i - n in
         let z : i ≡ length (automatic-keys (cat-of pr)) + j = omega arith in
         let lk = entries-length in
-        let small : 0 + j < byte b in-use-at = omega arith in
-        let o : 0 + j ≡ j = omega arith in
-        let there : getD (keys-in b) j 0 ≡ key-of b j = ap (λ (k : List ℕ). getD k j 0) (sym (keys-start b (byte b in-use-at) refl)) ∙ key-from b (byte b in-use-at) j 0 small
-        ∙ ap (key-of b) o in
+        let there : getD (keys-in b) j 0 ≡ key-of b j = key-there b j (omega arith) in
         let k : getD all-keys i 0 ≡ key-of b j =
         ap (λ (x : ℕ). getD all-keys x 0) z ∙ getD-append-add (automatic-keys (cat-of pr)) (keys-in b) j 0 ∙ there in
         told (ap (λ (x : ℕ). key x m) p ∙ ap (key (two b (place-at j))) q ∙ sym k)

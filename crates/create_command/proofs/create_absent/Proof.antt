@@ -1,4 +1,4 @@
-use Rattle.create_command.proofs.Steps.{reply-long}
+use Rattle.create_command.proofs.Steps.{reply-long, rank-small}
 use Rattle.create_command.proofs.Creates.{refused-bad, refused-full, accepted}
 use Rattle.sound_store.proofs.Held.{live-shaped}
 use Rattle.rules.proofs.ByteLaws.{known-bytes}
@@ -14,10 +14,12 @@ use Rattle.create_command.proofs.create_absent.Lts as lts
 use Rattle.create_command.proofs.bad_in_create.Reads as bad-in-create-reads
 use Rattle.create_command.proofs.new_place.Reads as new-place-reads
 use Rattle.create_command.proofs.put_in.Reads as put-in-reads
-use Rattle.octets.proofs.key_of.Reads as key-of-reads
 use Rattle.octets.proofs.put_number.Reads as put-number-reads
 use Rattle.table.proofs.in_use.Reads as in-use-reads
 use Rattle.rules.specs.Messages.{bad-parameter}
+use Rattle.rules.specs.Catalogue.{key}
+use Rattle.octets.proofs.Parted.{part}
+use Rattle.store.specs.Layout.{live-at, block-length}
 
 bad-in-create-requires : tie.Need-bad-in-create-requires
 bad-in-create-requires c κs =
@@ -70,20 +72,31 @@ returns-2 c =
     refused-full (a .product) (a .store .now) (f .pre .0) (a .class) (a .number) (f .fits .number .fits) (f .pre .1) (a .v .now) (f .pre .2) (f .pre .4)
     (j .bad-in-create .result) (p .new-place .ensures) (j .bad-in-create .ensures) (c .before .before .before .before .if1 .left) (omega arith) (a .out .now) (f .pre .3)
 
+-- the store's live table, and the place that the instance would get
+put-in-requires : tie.Need-put-in-requires
+put-in-requires c κs =
+    let p = c .before .before .before .before .before .before .before .before .before .before .before .before in
+    let f = p .before .before .before .before .before in
+    let a = f .args in
+    let room = c .before .before .before .in-use .ensures in
+    let left = c .before .before .if2 .left in
+    (live-shaped (a .product) (a .store .now) (f .pre .0), omega arith, rank-small (key (a .class) (a .number)) (part live-at block-length (a .store .now)) (f .pre .5),
+    ap length (p .new-place .ensures) ∙ place-has-its-length _)
+
 returns-3 : tie.Need-returns-3
 returns-3 c =
-    let fine = c .before .before .before .before .before .before .before .before .before .before in
+    let fine = c .before .before .before .before .before .before .before .before .before in
     let j = fine .before in
     let p = j .before .before .before .before .before in
     let f = p .before .before .before .before .before in
     let a = f .args in
-    let room = c .before .before .before .before .before .before in
+    let room = c .before .before .before .before .before in
     let n = room .before .in-use .ensures in
     let m = room .if2 .left in
     let small = known-bytes (a .v .now) (λ i. p .before .before .before .shared-slice-known .given i .fits) in
     accepted (a .product) (a .store .now) (f .pre .0) (a .class) (a .number) (f .fits .number .fits) (f .pre .1) (a .v .now) (f .pre .2) (f .pre .4)
     (j .bad-in-create .result) (p .new-place .ensures) (j .bad-in-create .ensures) (fine .if1 .left) (omega arith) small
-    (c .before .before .before .before .key-of .ensures) (c .before .before .put-in .ensures) (a .out .now) (f .pre .3)
+    (f .pre .5) (c .before .before .put-in .ensures) (a .out .now) (f .pre .3)
 
 pub create-absent-spec : {M : Type 1} → statement M
 create-absent-spec =
@@ -112,8 +125,7 @@ create-absent-spec =
     (λ c. search needs)
     (λ c. search needs)
     (λ c. search needs)
-    (λ c κs. search needs)
     (λ c. search needs)
-    (λ c κs. search needs)
+    put-in-requires
     (λ c. search needs)
     returns-3)

@@ -1,56 +1,29 @@
-use Prim.Native.Nat.{_+_, _-_, _≤_}
 use native.Mathlib.Omega.{arith}
-use mathlib.Core.Path.{_≡_, ap}
-use Rattle.table.specs.Places.{keys-in}
-use Rattle.table.specs.Spots.{rank}
-use Rattle.table.proofs.Turns.{keys-from, keys-start, rank-here, rank-later, rank-end}
+use Rattle.table.proofs.Ranks.{few-passed}
 use borrow.Author.Needs.{needs}
 use Rattle.table.proofs.rank_of.Statement.{statement}
 use Rattle.table.proofs.rank_of.Tie as tie
+use Rattle.table.proofs.rank_of.Reads as reads
+use Rattle.table.proofs.rank_of.Lts as lts
+use Rattle.table.proofs.in_use.Reads as in-use-reads
+use Rattle.table.proofs.past.Reads as past-reads
 
--- the rank among the keys from the i-th on, and i, make the answer
-abbrev Inv-loop : tie.InvT-loop
-Inv-loop b key n i₀ i = (i ≤ n) × (rank key (keys-from b n i) + i ≡ rank key (keys-in b))
-
-abbrev μ-loop : tie.MeasureT-loop
-μ-loop b key n i₀ i = n - i
-
-loop-holds : tie.Need-loop-holds Inv-loop μ-loop
-loop-holds c =
-    let a = c .before .before .args in
-    (search needs, omega (arith, ap (rank (a .key)) (keys-start (a .b .now) (c .in-use .result) (c .in-use .ensures))))
-
-returns : tie.Need-returns Inv-loop μ-loop
-returns c =
-    let l = c .before .before .before in
-    let a = l .before .before .before .args in
-    omega (arith, rank-here (a .b .now) (l .before .in-use .result) (l .loop .i) (a .key) (omega arith) (omega arith))
-
-loop-again : tie.Need-loop-again Inv-loop μ-loop
-loop-again c =
-    let l = c .before .before .before in
-    let a = l .before .before .before .args in
-    omega (arith, rank-later (a .b .now) (l .before .in-use .result) (l .loop .i) (a .key) (omega arith) (omega arith))
-
-returns-2 : tie.Need-returns-2 Inv-loop μ-loop
-returns-2 c =
-    let l = c .before in
-    let a = l .before .before .before .args in
-    omega (arith, rank-end (a .b .now) (l .before .in-use .result) (l .loop .i) (a .key) (omega arith))
+-- 32 places and 31 more are more than there are
+past-requires : tie.Need-past-requires
+past-requires c κs =
+    let f = c .before .before in
+    let z = few-passed (f .args .b .now) (f .pre) (f .args .key) in
+    (f .pre, c .in-use .ensures, omega arith, omega arith, record { past = omega arith; near = omega arith })
 
 pub rank-of-spec : {M : Type 1} → statement M
 rank-of-spec =
     tie.close
     (tie.spec
-    Inv-loop
-    μ-loop
     (λ c κs. search needs)
-    loop-holds
-    (λ c. search needs)
-    (λ c. search needs)
+    past-requires
     (λ c κs. search needs)
-    returns
-    (λ c. search needs)
-    (λ c. search needs)
-    loop-again
-    returns-2)
+    (λ c κs. search needs)
+    (λ c κs. search needs)
+    (λ c κs. search needs)
+    (λ c κs. search needs)
+    (λ c. search needs))
