@@ -33,12 +33,15 @@ pub fn recall(memory: &[u8], buffer: &mut [u8])
     octets::copy_in(buffer, 0, &memory[REPLY_AT..MEMORY]);
 }
 
-// Remembers a message and the reply in a buffer's first 48 bytes.
+// Remembers a message and the reply in a buffer's first 48 bytes. Both are gathered in an array first: what is lent may overlap for all that the
+// compiler knows, and is copied byte by byte.
 pub fn remember(memory: &mut [u8], m: &[u8], buffer: &[u8])
     requires { ⌜ (length (now memory) ≡ 1 + memory-length) × (command-length ≤ length (now m)) × (reply-length ≤ length (now buffer)) ⌝ }
     ensures { λ _. ⌜ now (memory .exit) ≡ 1 ∷ take command-length (now (m .entry)) ++ take reply-length (now (buffer .entry)) ⌝ }
 {
-    memory[0] = 1;
-    octets::copy_in(memory, COMMAND_AT, &m[0..COMMAND]);
-    octets::copy_in(memory, REPLY_AT, &buffer[0..REPLY]);
+    let mut both = [0u8; MEMORY];
+    both[0] = 1;
+    octets::copy_in(&mut both, COMMAND_AT, &m[0..COMMAND]);
+    octets::copy_in(&mut both, REPLY_AT, &buffer[0..REPLY]);
+    octets::copy_in(memory, 0, &both);
 }
