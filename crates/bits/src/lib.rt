@@ -1,4 +1,4 @@
-// Masks of attributes, bitmaps of alarms, and the numbers that go from 255 back to 1.
+// Masks of attributes, a digit for each attribute, bitmaps of alarms, and the numbers that go from 255 back to 1.
 ghost use mathlib.Core.Path.{_≡_};
 ghost use mathlib.Core.Logic.{_≢_};
 ghost use mathlib.Core.Bool.{false};
@@ -8,6 +8,7 @@ ghost use lib.Bits.{bitAnd};
 ghost use Rattle.rules.specs.Bytes.{bits, bits-from};
 ghost use Rattle.rules.specs.Masks.{named};
 ghost use Rattle.rules.specs.Messages.{next-number};
+ghost use Rattle.bits.specs.Digits.{digit};
 ghost use Rattle.bits.specs.Firsts.{First};
 
 // The number after another, for the sync counter and the alarm number: 254 to 255, 255 to 1, never to 0.
@@ -53,6 +54,14 @@ pub fn common(m: u16, other: u16) -> u16
     ensures { λ r. ⌜ r ≡ bitAnd m other ⌝ }
 {
     m & other
+}
+
+// Attribute n's of sixteen hexadecimal digits, the top one first.
+pub fn digit(x: u64, n: u16) -> usize
+    requires { ⌜ (1 ≤ n) × (n ≤ 16) ⌝ }
+    ensures { λ r. ⌜ r ≡ digit x n ⌝ }
+{
+    ((x >> (64 - 4 * n)) & 15) as usize
 }
 
 // Is alarm n of eight on? Alarm 0 is the top bit.
