@@ -7,3 +7,4 @@ pub mod SlotLaws
 pub mod Views
 pub mod Offsets
 pub mod MaskLaws
+pub mod SizeLaws

@@ -8,7 +8,8 @@ use Rattle.class_tables.specs.Built.{cat-of}
 use Rattle.class_tables.specs.Meaning.{meaning}
 use Rattle.class_tables.specs.Lines.{computing-lines}
 use Rattle.class_tables.specs.Masks.{writable-numbers}
+use Rattle.class_tables.specs.Sizes.{size-digits}
 
 unfoldable pub computing-tables : ℕ
-unfolding computing-rules computing-products computing-layout computing-lines cat-of meaning offset before writable-numbers position
+unfolding computing-rules computing-products computing-layout computing-lines cat-of meaning offset before writable-numbers size-digits position
 computing-tables = 0

@@ -4,5 +4,6 @@ pub mod Lines
 pub mod Describes
 pub mod Families
 pub mod Masks
+pub mod Sizes
 pub mod Finding
 pub mod Computing

@@ -38,6 +38,17 @@ pub fn by(product: Product, small: u16, large: u16, meter: u16) -> u16
     }
 }
 
+// One of three long numbers, by product.
+pub fn word_by(product: Product, small: u64, large: u64, meter: u64) -> u64
+    ensures { λ r. ⌜ r ≡ by-product product small large meter ⌝ }
+{
+    match product {
+        Product::Small => small,
+        Product::Large => large,
+        Product::Meter => meter,
+    }
+}
+
 // Has the product bridges and ports, and the commands Create, Delete and Set? Meter has neither.
 pub fn provisioned(product: Product) -> bool
     ensures { λ r. ⌜ r ≡ provisioned product ⌝ }

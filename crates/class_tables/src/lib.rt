@@ -3,6 +3,7 @@
 pub mod built;
 pub mod classes;
 pub mod masks;
+pub mod sizes;
 pub mod slots;
 
 pub enum Product {

@@ -1,0 +1,8 @@
+-- The sizes of a class's attributes in one number.
+use Prim.Native.Nat.{ℕ, _-_, _*_, _^_}
+use Rattle.rules.specs.Masks.{attribute-numbers, total}
+use Rattle.rules.specs.Catalogue.{Class, size-of}
+
+-- a hexadecimal digit each: attribute 1's is the top one of sixteen
+unfoldable pub size-digits : Class → ℕ
+size-digits k = total (λ n. size-of k n * 16 ^ (16 - n)) attribute-numbers
