@@ -1,5 +1,5 @@
--- What a mask names and a class doesn't have, or doesn't let a Set write; and that all it names takes few bytes.
-use Prim.Native.Nat.{ℕ, _+_, _-_, _*_, _≤_, _<_}
+-- What a mask names and a class doesn't have, or doesn't let a Set write; and what all that it names takes.
+use Prim.Native.Nat.{ℕ, suc, _+_, _-_, _*_, _≤_, _<_}
 use native.Mathlib.Omega.{arith}
 use mathlib.Core.Path.{_≡_, refl, sym, _∙_, ap}
 use mathlib.Core.Bool.{Bool, not, _&&_}
@@ -10,15 +10,16 @@ use Rattle.rules.specs.Maps.{_and_, keys, those}
 use Rattle.rules.specs.Masks.{in-mask, named, mask, total}
 use Rattle.rules.specs.Catalogue.{attribute, supported, size-of}
 use Rattle.rules.specs.Commands.{unsupported, unwritable}
+use Rattle.bits.specs.Digits.{digit}
 use Rattle.bits.specs.Firsts.{First}
 use Rattle.bits.proofs.MaskWalk.{Walked, next-within}
-use Rattle.bits.proofs.Masks.{named-within, named-few, numbers-among, those-same, those-those, mask-named, named-and, in-mask-not}
+use Rattle.bits.proofs.Masks.{Within, named-within, named-few, numbers-among, those-same, those-those, mask-named, named-and, in-mask-not}
 use Rattle.class_tables.specs.Built.{class-for}
 use Rattle.class_tables.specs.Masks.{writable-numbers}
+use Rattle.class_tables.specs.Sizes.{size-digits}
 use Rattle.class_tables.proofs.MaskLaws.{supported-bit, writable-bit}
+use Rattle.class_tables.proofs.SizeLaws.{size-in-digits}
 use Rattle.class_tables.specs.declared.Product.{Product}
-use Rattle.class_tables.proofs.Tables.{described-here}
-use Rattle.class_tables.proofs.Views.{size-is}
 
 both-small : (m k : ℕ) → m < 65536 → bitAnd m k < 65536
 both-small m k h = let z : bitAnd m k ≤ m = and-le-l m k in omega arith
@@ -51,18 +52,29 @@ module _ (pr : Product) (c : ℕ) where
         ← (let z : in-mask s n ≡ supported (class-for pr c) n = rw e (supported-bit pr c n (numbers-among n a b)) in z),
       ) refl))
 
+-- ---- sizes read from the digits of a number
+
 -- few attributes, each of few bytes
-module _ (pr : Product) (c : ℕ) where
-  total-small : (l : List ℕ) → total (size-of (class-for pr c)) l ≤ 25 * length l
-  unfolding total
+module _ (x : ℕ) where
+  total-small : (l : List ℕ) → total (digit x) l ≤ 15 * length l
+  unfolding total digit
   total-small [] = omega arith
-  total-small (n ∷ l) =
-      let d = described-here pr c n in
-      let e = size-is d in
-      let s = d .small in
-      let z = total-small l in
-      omega arith
+  total-small (n ∷ l) = let z = total-small l in omega arith
 
   -- the next one's bytes can be added
-  pub next-small : {m left sum n : ℕ} → Walked (size-of (class-for pr c)) m left sum → First left n → sum + size-of (class-for pr c) n ≤ 400
+  pub next-small : {m left sum n : ℕ} → Walked (digit x) m left sum → First left n → sum + digit x n ≤ 240
   next-small {m} w f = let z = next-within w f in let t = total-small (named m) in let few = named-few m in omega arith
+
+module _ (pr : Product) (c x : ℕ) (e : x ≡ size-digits (class-for pr c)) where
+  total-within : (b : ℕ) (l : List ℕ) → 1 ≤ b → Within b l → total (digit x) l ≡ total (size-of (class-for pr c)) l
+  unfolding total
+  total-within b [] h w = refl
+  total-within b (n ∷ l) h w =
+      let i = w .0 in
+      let z : digit x n ≡ size-of (class-for pr c) n = rw e (size-in-digits pr c n (omega arith) (w .1)) in
+      let r : total (digit x) l ≡ total (size-of (class-for pr c)) l = total-within (suc n) l (omega arith) (w .2) in
+      omega arith
+
+  -- what a mask's attributes take by a class's digits is what they take
+  pub total-read : (m : ℕ) → total (digit x) (named m) ≡ total (size-of (class-for pr c)) (named m)
+  total-read m = total-within 1 (named m) (omega arith) (named-within m)

@@ -1,6 +1,7 @@
 // The mask of a Set or a Get, weighed against what its class has.
 use class_tables::Product;
 use class_tables::masks;
+use class_tables::sizes;
 ghost use mathlib.Core.Path.{_≡_};
 ghost use Rattle.rules.specs.Masks.{named, mask, total};
 ghost use Rattle.rules.specs.Catalogue.{size-of};
@@ -27,12 +28,12 @@ pub fn unwritable(product: Product, class: u16, asked: u16) -> u16
 pub fn total_size(product: Product, class: u16, asked: u16) -> usize
     ensures { λ r. ⌜ r ≡ total (size-of (class-for product class)) (named asked) ⌝ }
 {
+    let sizes = sizes::sizes(product, class);
     let mut left = asked;
     let mut sum = 0;
     while left != 0 {
         let n = bits::first_named(left);
-        let a = attribute_tables::attribute_of(product, class, n);
-        sum += a.size;
+        sum += bits::digit(sizes, n);
         left -= bits::bit_of(n);
     }
     sum
