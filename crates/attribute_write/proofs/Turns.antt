@@ -55,37 +55,35 @@ pub all-values : (k : Class) {at m : ℕ} {v b₀ b : List ℕ} {left from : ℕ
 unfolding cut laid-values
 all-values k s e = rw (none-left e) at (s .so-far)
 
-module _ (pr : Product) (c : ℕ) {at m : ℕ} {v b₀ b : List ℕ} {left from n : ℕ} {a : Attribute}
-    (s : Values (class-for pr c) at m v b₀ b left from) (f : First left n) (d : DescribedIn (class-for pr c) n a) where
-  abbrev k : Class
-  k = class-for pr c
-
+-- the next attribute has this size and, being stored, this place
+module _ (k : Class) {at m : ℕ} {v b₀ b : List ℕ} {left from n place size : ℕ} (s : Values k at m v b₀ b left from) (f : First left n)
+    (placed : among n (stored-numbers k) ≡ true → place ≡ offset-of k n) (sized : size ≡ size-of k n) where
   next-stored : among n (stored-numbers k) ≡ true
   next-stored = next-passes (s .walked) f (λ i. among i (stored-numbers k)) (s .may .are-stored)
 
   -- the next value is there, and there is room for it
-  pub value-room : (from + a .size ≤ length v) × (at + a .at + a .size ≤ length b)
+  pub value-room : (from + size ≤ length v) × (at + place + size ≤ length b)
   value-room =
       let z = next-within (s .walked) f in
-      let e = size-is d in
-      let w = lies-within pr c n next-stored d in
+      let e = placed next-stored in
+      let w = offset-fits k n next-stored in
       let long = s .long in
       let inside = s .may .inside in
       let carried = s .may .carried in
       (omega arith, omega arith)
 
-  pub one-value : {bit : ℕ} {b′ : List ℕ} → bit ≡ 2 ^ (16 - n) → b′ ≡ laid (at + a .at) (take (from + a .size - from) (drop from v)) b
-      → Values k at m v b₀ b′ (left - bit) (from + a .size)
+  pub one-value : {bit : ℕ} {b′ : List ℕ} → bit ≡ 2 ^ (16 - n) → b′ ≡ laid (at + place) (take (from + size - from) (drop from v)) b
+      → Values k at m v b₀ b′ (left - bit) (from + size)
   unfolding cut laid-values
   one-value {bit} {b′} e y =
       let room = value-room in
-      let w : List ℕ = take (from + a .size - from) (drop from v) in
-      let cut-off : from + a .size - from ≡ size-of k n = let z = size-is d in omega arith in
-      let lw : length w ≤ a .size = simp length-take (omega arith) in
-      let q = length-laid (at + a .at) w b (omega arith) in
+      let w : List ℕ = take (from + size - from) (drop from v) in
+      let cut-off : from + size - from ≡ size-of k n = omega arith in
+      let lw : length w ≤ size = simp length-take (omega arith) in
+      let q = length-laid (at + place) w b (omega arith) in
       record {
-        walked = one-walked (s .walked) f e (size-is d);
-        so-far = rw (y, placed-at pr c n next-stored d, cut-off, size-is d, ← drop-drop (size-of k n) from v) (rw (and-the-others f e) at (s .so-far));
+        walked = one-walked (s .walked) f e sized;
+        so-far = rw (y, placed next-stored, cut-off, sized, ← drop-drop (size-of k n) from v) (rw (and-the-others f e) at (s .so-far));
         may = s .may;
         long = ap length y ∙ q ∙ s .long;
       }

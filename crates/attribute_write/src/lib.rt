@@ -2,6 +2,7 @@
 use class_tables::Product;
 use class_tables::Way;
 use class_tables::classes;
+use class_tables::sizes;
 ghost use mathlib.Core.Path.{_≡_};
 ghost use mathlib.Core.List.{[], _∷_};
 ghost use Prim.Native.Nat.{_+_, _≤_};
@@ -19,12 +20,13 @@ pub fn lay_values(b: &mut [u8], at: usize, product: Product, class: u16, asked: 
     requires { ⌜ Laying (class-for product class) at (named asked) (now v) (now b) ⌝ }
     ensures { λ _. ⌜ now (b .exit) ≡ laid-values (class-for product class) at (cut (size-of (class-for product class)) (named asked) (now (v .entry))) (now (b .entry)) ⌝ }
 {
+    let sizes = sizes::sizes(product, class);
     let mut left = asked;
     let mut from = 0;
     while left != 0 {
         let n = bits::first_named(left);
         let a = attribute_tables::attribute_of(product, class, n);
-        let end = from + a.size;
+        let end = from + bits::digit(sizes, n);
         octets::copy_in(b, at + a.at, &v[from..end]);
         from = end;
         left -= bits::bit_of(n);
