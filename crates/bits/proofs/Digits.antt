@@ -1,7 +1,7 @@
 -- A digit is four bits.
 use Prim.Native.Nat.{ℕ, _-_, _*_, _/_, _^_, _≤_}
 use native.Mathlib.Omega.{arith}
-use mathlib.Core.Path.{_≡_, refl, _∙_, ap}
+use mathlib.Core.Path.{_≡_, refl, _∙_}
 use lib.Dec.{eqb}
 use lib.Bits.{bitAnd, and-mask}
 use Rattle.rules.specs.Maps.{_and_}
