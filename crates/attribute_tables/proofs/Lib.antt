@@ -1,1 +1,2 @@
+pub mod BeginLaws
 pub mod Judging

@@ -1,4 +1,5 @@
 // The attributes of each class, a line each, in the order of document 01; and whether a content is legal by its line.
+pub mod begins;
 pub mod judge;
 
 use class_tables::Attribute;
