@@ -14,6 +14,10 @@ use Rattle.class_tables.proofs.Matches.{Avoids, avoided}
 use Rattle.class_tables.proofs.EveryProduct.{Passed, in-each, PassedBy, otherwise}
 use Rattle.class_tables.proofs.Offsets.{is-among-stored}
 
+-- what a list has passes a test, if those that a match doesn't list do
+pub unlisted : (q : ℕ → Bool) (l listed : List ℕ) (n : ℕ) → Avoids n listed → among n l ≡ true → all (λ m. among m listed or q m) l ≡ true → q n ≡ true
+unlisted q l listed n a t h = or-cases (all-among (λ m. among m listed or q m) l h n t) (λ g. true-false g (avoided n listed a)) (λ g. g)
+
 abbrev pub Stored : Class → ℕ → Type 0
 Stored k n = (supported k n ≡ true) × (is-stored (attribute k n .source) ≡ true)
 
@@ -32,10 +36,8 @@ abbrev pub others-at-0 : List ℕ → Class → Bool
 others-at-0 listed k = all (λ m. among m listed or eqb 0 (offset-of k m)) (stored-numbers k)
 
 at-0 : (listed : List ℕ) (k : Class) (n : ℕ) → Avoids n listed → Stored k n → others-at-0 listed k ≡ true → 0 ≡ offset-of k n
-at-0 listed k n a s h = or-cases
-    (all-among (λ m. among m listed or eqb 0 (offset-of k m)) (stored-numbers k) h n (is-among-stored k n (s .0) (s .1)))
-    (λ g. true-false g (avoided n listed a))
-    (eqb-eq 0 (offset-of k n))
+at-0 listed k n a s h = eqb-eq 0 (offset-of k n)
+    (unlisted (λ m. eqb 0 (offset-of k m)) (stored-numbers k) listed n a (is-among-stored k n (s .0) (s .1)) h)
 
 -- an attribute that the match doesn't have
 pub begins-at-0 : (c : ℕ) (listed : List ℕ) (pr : Product) (n : ℕ) → Avoids n listed → Stored (class-for pr c) n → Passed (λ cat. others-at-0 listed (class cat c))

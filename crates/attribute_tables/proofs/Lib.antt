@@ -1,2 +1,3 @@
 pub mod BeginLaws
 pub mod Judging
+pub mod WayLaws

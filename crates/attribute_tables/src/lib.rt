@@ -1,6 +1,7 @@
 // The attributes of each class, a line each, in the order of document 01; and whether a content is legal by its line.
 pub mod begins;
 pub mod judge;
+pub mod ways;
 
 use class_tables::Attribute;
 use class_tables::Product;
