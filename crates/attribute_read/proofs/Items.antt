@@ -3,14 +3,11 @@ use Prim.Native.Nat.{ℕ, _+_, _-_, _≤_, _<_}
 use native.Mathlib.Omega.{arith}
 use mathlib.Core.Path.{_≡_, refl, sym, _∙_, ap}
 use mathlib.Core.Bool.{true}
-use mathlib.Core.Logic.{⊎-elim}
 use mathlib.Core.Option.{some}
-use mathlib.Core.List.{List, [], _∷_}
+use mathlib.Core.List.{List}
 use lib.ListN.{length, drop, length-drop}
 use lib.Seq.{length-take-le}
 use lib.Dec.{eqb}
-use types.Run.{OneOf}
-use denote.Enum.Declared.{tagOf}
 use Rattle.rules.specs.Maps.{_and_}
 use Rattle.rules.specs.Bytes.{byte}
 use Rattle.rules.specs.Catalogue.{Source, stored, of-creator, count-of, Catalogue, class, attribute, supported, size-of, is-stored, is-created, leader, key, ont-data}
@@ -20,16 +17,10 @@ use Rattle.rules.proofs.MapLaws.{some-eq}
 use Rattle.store.specs.Layout.{place-width, slot-at, place-at, block-length, places-at, key-length, place-count, slot-count}
 use Rattle.store.specs.Positions.{inside, position}
 use Rattle.class_tables.specs.Built.{cat-of, class-for}
-use Rattle.class_tables.specs.declared.Way.{Way}
-use Rattle.class_tables.specs.declared.Way.the-variants.{First, Carried, Copied, OfCreator, CountOf}
-use Rattle.class_tables.specs.declared.Attribute.{Attribute}
-use Rattle.class_tables.specs.Describes.{offset-of, DescribedIn}
-use Rattle.class_tables.specs.Meaning.{source-of, is-kept}
+use Rattle.class_tables.specs.Describes.{offset-of}
 use Rattle.class_tables.proofs.EveryProduct.{well-formed-of}
 use Rattle.class_tables.proofs.ClassLaws.{inside-fits}
 use Rattle.class_tables.proofs.Offsets.{is-among-stored, offset-fits}
-use Rattle.class_tables.proofs.Views.{size-is, source-is, stored-is}
-use Rattle.class_tables.proofs.Way.{the-type}
 use Rattle.table.specs.Places.{InShape, keys-in, how-many-hold}
 use Rattle.table.specs.Spots.{spot-among}
 use Rattle.table.proofs.TableLaid.{at-some}
@@ -45,66 +36,43 @@ use Rattle.rules.proofs.ByteLaws.{length-bytes}
 
 -- ---- as the code works it out
 
-pub in-entry-is : (pr : Product) (c n : ℕ) {r : Attribute} {o : ℕ} → DescribedIn (class-for pr c) n r → o ≡ inside (cat-of pr) c
-    → supported (class-for pr c) n ≡ true → is-stored (attribute (class-for pr c) n .source) ≡ true → o + r .at ≡ in-entry (cat-of pr) c n
-in-entry-is pr c n d e t s = rw (e, d .placed s t)
-
-below-three : (k : ℕ) → OneOf (0 ∷ 1 ∷ 2 ∷ []) k → k < 3
-below-three k h = ⊎-elim (λ e. omega arith) (λ g. ⊎-elim (λ e. omega arith) (λ e. omega arith) g) h
-
--- the tags of the ways that store
-pub kept-way : (w : Way) → OneOf (0 ∷ 1 ∷ 2 ∷ []) (tagOf the-type w) → is-kept w ≡ true
-kept-way (First v) h = refl
-kept-way Carried h = refl
-kept-way (Copied n) h = refl
-kept-way (OfCreator a) h = let z : 3 < 3 = below-three 3 h in absurd (omega arith)
-kept-way (CountOf d a) h = let z : 4 < 3 = below-three 4 h in absurd (omega arith)
-
-module _ (cat : Catalogue) (c o n : ℕ) {r : Attribute} (d : DescribedIn (class cat c) n r) where
-  pub item-is : (x : Origin) → x ≡ origin cat c o n (source-of (r .size) (r .way)) → record { size = r .size; origin = x } ≡ item-of cat c o n
+module _ (cat : Catalogue) (c o n : ℕ) {size : ℕ} (sized : size ≡ size-of (class cat c) n) where
+  item-is : {s : Source} (x : Origin) → attribute (class cat c) n .source ≡ s → x ≡ origin cat c o n s → record { size = size; origin = x } ≡ item-of cat c o n
   unfolding item-of
-  item-is x e =
-      let s : r .size ≡ size-of (class cat c) n = size-is d in
-      let y : x ≡ origin cat c o n (attribute (class cat c) n .source) = e ∙ ap (origin cat c o n) (source-is d) in
-      λ i. record { size = s i; origin = y i }
+  item-is x f e =
+      let y : x ≡ origin cat c o n (attribute (class cat c) n .source) = e ∙ ap (origin cat c o n) (sym f) in
+      λ i. record { size = sized i; origin = y i }
 
-  pub source-by : {w : Way} → r .way ≡ w → attribute (class cat c) n .source ≡ source-of (r .size) w
-  source-by e = sym (source-is d) ∙ ap (source-of (r .size)) e
-
-  stored-origin : (size : ℕ) (w : Way) → is-kept w ≡ true → At (o + offset-of (class cat c) n) ≡ origin cat c o n (source-of size w)
+  pub stored-item : {p : ℕ} → is-stored (attribute (class cat c) n .source) ≡ true → p ≡ offset-of (class cat c) n → record { size = size; origin = At (o + p) } ≡ item-of cat c o n
   unfolding origin
-  stored-origin size (First v) h = refl
-  stored-origin size Carried h = refl
-  stored-origin size (Copied m) h = refl
-  stored-origin size (OfCreator a) h = never h
-  stored-origin size (CountOf e a) h = never h
+  stored-item {p} h e = item-is (At (o + p)) refl (go (attribute (class cat c) n .source) h)
+    where
+      go : (s : Source) → is-stored s ≡ true → At (o + p) ≡ origin cat c o n s
+      go (stored f) h = rw e refl
+      go (of-creator a) h = never h
+      go (count-of d a) h = never h
 
-  pub stored-item : supported (class cat c) n ≡ true → is-kept (r .way) ≡ true → record { size = r .size; origin = At (o + r .at) } ≡ item-of cat c o n
-  stored-item t h =
-      let p : r .at ≡ offset-of (class cat c) n = d .placed (sym (stored-is d) ∙ h) t in
-      item-is (At (o + r .at)) (ap (λ (k : ℕ). At (o + k)) p ∙ stored-origin (r .size) (r .way) h)
-
-  pub creator-item : {m e p lead : ℕ} → r .way ≡ OfCreator m → e ≡ inside cat c → lead ≡ leader cat c → p ≡ in-entry cat lead m
-      → record { size = r .size; origin = At (o - e + p) } ≡ item-of cat c o n
+  pub creator-item : {m e p lead : ℕ} → attribute (class cat c) n .source ≡ of-creator m → e ≡ inside cat c → lead ≡ leader cat c → p ≡ in-entry cat lead m
+      → record { size = size; origin = At (o - e + p) } ≡ item-of cat c o n
   unfolding origin
-  creator-item {m} {e} {p} {lead} w f g h = item-is (At (o - e + p)) (rw (w, f, h, g) refl)
+  creator-item {m} {e} {p} {lead} s f g h = item-is (At (o - e + p)) s (rw (f, h, g) refl)
 
-  pub counted-item : {m e p : ℕ} → r .way ≡ CountOf e m → p ≡ in-entry cat e m → record { size = r .size; origin = Count e p } ≡ item-of cat c o n
+  pub counted-item : {m e p : ℕ} → attribute (class cat c) n .source ≡ count-of e m → p ≡ in-entry cat e m → record { size = size; origin = Count e p } ≡ item-of cat c o n
   unfolding origin
-  counted-item {m} {e} {p} w h = item-is (Count e p) (rw (w, h) refl)
+  counted-item {m} {e} {p} s h = item-is (Count e p) s (rw h refl)
 
-module _ (pr : Product) (c n o : ℕ) {r : Attribute} (d : DescribedIn (class-for pr c) n r) (t : supported (class-for pr c) n ≡ true) where
+module _ (pr : Product) (c n : ℕ) (t : supported (class-for pr c) n ≡ true) where
   -- what the creator's attribute is known to be
-  pub creator-kept : {m lead : ℕ} → r .way ≡ OfCreator m → lead ≡ leader (cat-of pr) c
+  pub creator-kept : {m lead : ℕ} → attribute (class-for pr c) n .source ≡ of-creator m → lead ≡ leader (cat-of pr) c
       → (supported (class-for pr lead) m ≡ true) × (is-stored (attribute (class-for pr lead) m .source) ≡ true)
-  creator-kept {m} {lead} w g =
-      let f : FromCreator (cat-of pr) c n m = from-creator (cat-of pr) (well-formed-of pr) c n t m (source-by (cat-of pr) c o n d w) in
+  creator-kept {m} {lead} s g =
+      let f : FromCreator (cat-of pr) c n m = from-creator (cat-of pr) (well-formed-of pr) c n t m s in
       rw g (f .there, f .kept)
 
   -- and the one that is counted by
-  pub counted-kept : {e m : ℕ} → r .way ≡ CountOf e m → (supported (class-for pr e) m ≡ true) × (is-stored (attribute (class-for pr e) m .source) ≡ true)
-  counted-kept {e} {m} w =
-      let f : Counts (cat-of pr) c n e m = counts (cat-of pr) (well-formed-of pr) c n t e m (source-by (cat-of pr) c o n d w) in
+  pub counted-kept : {e m : ℕ} → attribute (class-for pr c) n .source ≡ count-of e m → (supported (class-for pr e) m ≡ true) × (is-stored (attribute (class-for pr e) m .source) ≡ true)
+  counted-kept {e} {m} s =
+      let f : Counts (cat-of pr) c n e m = counts (cat-of pr) (well-formed-of pr) c n t e m s in
       (f .there, f .kept)
 
 -- ---- within a block

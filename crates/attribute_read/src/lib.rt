@@ -1,6 +1,8 @@
 // The contents of attributes, read out of the bytes of a table: the live one, or the frozen copy of an upload.
+use attribute_tables::begins;
+use attribute_tables::ways;
+use attribute_tables::ways::Derived;
 use class_tables::Product;
-use class_tables::Way;
 use class_tables::classes;
 use table::Which;
 ghost use mathlib.Core.Path.{_≡_};
@@ -9,7 +11,7 @@ ghost use Prim.Native.Nat.{_+_, _≤_, _<_};
 ghost use lib.ListN.{length, drop};
 ghost use Rattle.rules.specs.Bytes.{byte, bytes, laid};
 ghost use Rattle.rules.specs.Masks.{named};
-ghost use Rattle.rules.specs.Catalogue.{attribute, supported, is-stored};
+ghost use Rattle.rules.specs.Catalogue.{attribute, supported, size-of, is-stored};
 ghost use Rattle.store.specs.Layout.{place-width, places-at};
 ghost use Rattle.class_tables.specs.Built.{cat-of, class-for};
 ghost use Rattle.table.specs.Places.{InShape, how-many-hold, chosen};
@@ -44,8 +46,15 @@ fn in_entry(product: Product, class: u16, n: u16) -> usize
     requires { ⌜ (supported (class-for product class) n ≡ true) × (is-stored (attribute (class-for product class) n .source) ≡ true) ⌝ }
     ensures { λ r. ⌜ r ≡ in-entry (cat-of product) class n ⌝ }
 {
+    classes::inside(product, class) + begins::begin_of(product, class, n)
+}
+
+// How many bytes an attribute has.
+fn size_of(product: Product, class: u16, n: u16) -> usize
+    ensures { λ r. ⌜ r ≡ size-of (class-for product class) n ⌝ }
+{
     let a = attribute_tables::attribute_of(product, class, n);
-    classes::inside(product, class) + a.at
+    a.size
 }
 
 // An attribute of an instance whose contents begin at `at`: its size, and where its content comes from.
@@ -53,11 +62,10 @@ fn item_for(product: Product, class: u16, n: u16, at: usize) -> Item
     requires { ⌜ Within (cat-of product) class at × (supported (class-for product class) n ≡ true) ⌝ }
     ensures { λ r. ⌜ r ≡ item-of (cat-of product) class at n ⌝ }
 {
-    let a = attribute_tables::attribute_of(product, class, n);
-    let size = a.size;
-    let way = a.way;
-    match way {
-        Way::OfCreator(m) => {
+    let size = size_of(product, class, n);
+    let derived = ways::derived_of(product, class, n);
+    match derived {
+        Derived::OfCreator(m) => {
             let entry = at - classes::inside(product, class);
             let o = entry + in_entry(product, classes::leader_of(product, class), m);
             Item {
@@ -65,15 +73,15 @@ fn item_for(product: Product, class: u16, n: u16, at: usize) -> Item
                 origin: Origin::At(o),
             }
         }
-        Way::CountOf(d, m) => {
+        Derived::CountOf(d, m) => {
             let o = in_entry(product, d, m);
             Item {
                 size,
                 origin: Origin::Count(d, o),
             }
         }
-        _ => {
-            let o = at + a.at;
+        Derived::Own => {
+            let o = at + begins::begin_of(product, class, n);
             Item {
                 size,
                 origin: Origin::At(o),

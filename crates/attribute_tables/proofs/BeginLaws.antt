@@ -1,6 +1,6 @@
 -- Where a stored attribute's content begins: what the arms of the code's tables say, each a test that is computed over all products.
 use Prim.Native.Nat.{ℕ}
-use mathlib.Core.Path.{_≡_, sym}
+use mathlib.Core.Path.{_≡_}
 use mathlib.Core.Bool.{Bool, true, not}
 use mathlib.Core.List.{List, []}
 use lib.Dec.{eqb}
@@ -8,7 +8,7 @@ use Rattle.rules.specs.Maps.{_or_, among, all}
 use Rattle.rules.specs.Catalogue.{Class, class, attribute, supported, is-stored, stored-numbers}
 use Rattle.rules.proofs.Laws.{true-false, not-true, or-cases, eqb-eq, all-among}
 use Rattle.class_tables.specs.declared.Product.{Product}
-use Rattle.class_tables.specs.Built.{cat-of, class-for}
+use Rattle.class_tables.specs.Built.{class-for}
 use Rattle.class_tables.specs.Describes.{offset-of}
 use Rattle.class_tables.proofs.Matches.{Avoids, avoided}
 use Rattle.class_tables.proofs.EveryProduct.{Passed, in-each, PassedBy, otherwise}

@@ -1,13 +1,14 @@
--- Where an attribute is read: what the arms of the code's table say, each a test that is computed over all products.
+-- Where an attribute is read: what the arms of the code's table say, each a test that is computed over all products, and what
+-- the code's answer says of the source.
 use Prim.Native.Nat.{ℕ}
 use mathlib.Core.Path.{_≡_, refl, sym, _∙_, ap}
-use mathlib.Core.Bool.{Bool, true, not}
+use mathlib.Core.Bool.{Bool, true, false, not}
 use mathlib.Core.List.{List, [], _∷_}
 use Rattle.rules.specs.Maps.{_or_, keys, among, all, same}
-use Rattle.rules.specs.Catalogue.{Class, class, attribute, supported}
-use Rattle.rules.proofs.Laws.{true-false, not-true, or-cases, same-eq, has-among}
+use Rattle.rules.specs.Catalogue.{constant, Source, stored, of-creator, count-of, Class, class, attribute, supported, is-stored}
+use Rattle.rules.proofs.Laws.{never, true-false, not-true, or-cases, same-eq, has-among}
 use Rattle.class_tables.specs.declared.Product.{Product}
-use Rattle.class_tables.specs.Built.{cat-of, class-for}
+use Rattle.class_tables.specs.Built.{class-for}
 use Rattle.class_tables.proofs.Matches.{Avoids}
 use Rattle.class_tables.proofs.EveryProduct.{Passed, in-each, PassedBy, otherwise}
 use Rattle.attribute_tables.specs.declared.ways.Derived.{Derived}
@@ -64,3 +65,33 @@ own-there c listed pr n e a t h = rw e (own listed (class-for pr c) n a (rw e at
 pub all-own : (pr : Product) (c n : ℕ) (listed : List ℕ) → Avoids c listed → supported (class-for pr c) n ≡ true → PassedBy listed (others-own [])
     → Own ≡ derived-by (attribute (class-for pr c) n .source)
 all-own pr c n listed a t h = own [] (class-for pr c) n tt t (otherwise pr c listed a (others-own []) h)
+
+-- ---- what the answer says
+
+abbrev pub is-own : Derived → Bool
+is-own Own = true
+is-own (OfCreator a) = false
+is-own (CountOf d a) = false
+
+-- what isn't stored
+abbrev pub source-by : Derived → Source
+source-by Own = stored (constant [])
+source-by (OfCreator a) = of-creator a
+source-by (CountOf d a) = count-of d a
+
+own-if-stored : (s : Source) → is-stored s ≡ is-own (derived-by s)
+own-if-stored (stored f) = refl
+own-if-stored (of-creator a) = refl
+own-if-stored (count-of d a) = refl
+
+source-back : (s : Source) → is-stored s ≡ false → source-by (derived-by s) ≡ s
+source-back (stored f) h = never (sym h)
+source-back (of-creator a) h = refl
+source-back (count-of d a) h = refl
+
+module _ (s : Source) {x r : Derived} (e : x ≡ derived-by s) (f : x ≡ r) where
+  pub stored-if-own : is-own r ≡ true → is-stored s ≡ true
+  stored-if-own h = own-if-stored s ∙ ap is-own (sym e ∙ f) ∙ h
+
+  pub source-told : is-own r ≡ false → s ≡ source-by r
+  source-told h = sym (source-back s (own-if-stored s ∙ ap is-own (sym e ∙ f) ∙ h)) ∙ ap source-by (sym e ∙ f)
