@@ -3,7 +3,7 @@ use Prim.Native.Nat.{ℕ, zero, suc, _+_, _-_, _≤_, _<_}
 use native.Mathlib.Nat.{add-assoc, add-zero}
 use native.Mathlib.Omega.{arith}
 use mathlib.Core.Path.{_≡_, refl, sym, _∙_, ap}
-use mathlib.Core.Bool.{true}
+use mathlib.Core.Bool.{true, false}
 use mathlib.Core.List.{List, [], _∷_}
 use lib.ListN.{take, drop, getD}
 use lib.Seq.{getD-take, getD-drop, drop-drop}
@@ -11,7 +11,7 @@ use lib.Dec.{eqb}
 use Rattle.rules.specs.Maps.{_and_}
 use Rattle.rules.specs.Bytes.{byte, two}
 use Rattle.rules.specs.Catalogue.{key}
-use Rattle.rules.proofs.Laws.{eqb-true, eqb-false}
+use Rattle.rules.proofs.Laws.{cases, eqb-true, eqb-false}
 use Rattle.store.specs.Layout.{place-length, place-at, in-use-at, places-at, key-length}
 use Rattle.table.specs.Places.{place-keys, keys-in, one-holds, how-many-hold}
 
@@ -97,9 +97,12 @@ module _ (b : List ℕ) (c at m n i : ℕ) where
   unfolding _and_
   hold-here h p q = rw (hold-next h, class-is p, eqb-true (two (drop (place-at i) b) (key-length + at)) m (number-is ∙ q))
 
-  pub other-number : i < n → two b (place-at i) ≡ c → (two b (place-at i + (key-length + at)) ≡ m → ⊥) → hold-from b c at m n i ≡ hold-from b c at m n (i + 1)
+  pub other-number : i < n → (two b (place-at i + (key-length + at)) ≡ m → ⊥) → hold-from b c at m n i ≡ hold-from b c at m n (i + 1)
   unfolding _and_
-  other-number h p q = rw (hold-next h, class-is p, eqb-false (two (drop (place-at i) b) (key-length + at)) m (λ z. q (sym number-is ∙ z))) (omega arith)
+  other-number h q =
+      let d : List ℕ = drop (place-at i) b in
+      let f : eqb (two d (key-length + at)) m ≡ false = eqb-false (two d (key-length + at)) m (λ z. q (sym number-is ∙ z)) in
+      cases (eqb (two d 0) c) (λ e. rw (hold-next h, e, f) (omega arith)) (λ e. rw (hold-next h, e) (omega arith))
 
   pub other-class : i < n → (two b (place-at i) ≡ c → ⊥) → hold-from b c at m n i ≡ hold-from b c at m n (i + 1)
   unfolding _and_

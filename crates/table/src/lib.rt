@@ -96,8 +96,9 @@ pub fn naming(b: &[u8], class: u16, at: usize, number: u16) -> usize
     let mut i = 0;
     while i < n {
         let p = PLACES + PLACE * i;
-        if octets::number_at(b, p) == class {
-            if octets::number_at(b, p + (KEY + at)) == number {
+        // few places hold the number, and many are of the class
+        if octets::number_at(b, p + (KEY + at)) == number {
+            if octets::number_at(b, p) == class {
                 count += 1;
             }
         }

@@ -21,16 +21,15 @@ loop-again : tie.Need-loop-again Inv-loop μ-loop
 loop-again c =
     let l = c .before .before .before in
     let a = l .before .before .before .args in
-    let p = c .before .number-at .ensures in
+    let q = c .before .number-at .ensures in
     ⊎-elim
-    (λ w. omega (arith, hold-here (a .b .now) (a .class) (a .at) (a .number) (l .before .in-use .result) (l .loop .i) (omega arith) (sym p ∙ w .0 .taken) (sym (w .1 .ensures) ∙ w .2 .taken)))
+    (λ w. omega (arith, hold-here (a .b .now) (a .class) (a .at) (a .number) (l .before .in-use .result) (l .loop .i) (omega arith) (sym (w .1 .ensures) ∙ w .2 .taken) (sym q ∙ w .0 .taken)))
     (λ v. ⊎-elim
     (λ w. omega (
       arith,
-      other-number (a .b .now) (a .class) (a .at) (a .number) (l .before .in-use .result) (l .loop .i) (omega arith) (sym p ∙ w .0 .taken)
-          (λ q. w .2 .left (w .1 .ensures ∙ q)),
+      other-class (a .b .now) (a .class) (a .at) (a .number) (l .before .in-use .result) (l .loop .i) (omega arith) (λ p. w .2 .left (w .1 .ensures ∙ p)),
     ))
-    (λ w. omega (arith, other-class (a .b .now) (a .class) (a .at) (a .number) (l .before .in-use .result) (l .loop .i) (omega arith) (λ q. w .0 .left (p ∙ q))))
+    (λ w. omega (arith, other-number (a .b .now) (a .class) (a .at) (a .number) (l .before .in-use .result) (l .loop .i) (omega arith) (λ p. w .0 .left (q ∙ p))))
     v)
     (c .if1 .came)
 
@@ -54,9 +53,9 @@ naming-spec =
     loop-holds
     (λ c. search needs)
     (λ c. search needs)
+    (λ c. search needs)
+    (λ c. search needs)
     (λ c κs. search needs)
-    (λ c. search needs)
-    (λ c. search needs)
     (λ c κs. search needs)
     (λ c. search needs)
     (λ c. search needs)
