@@ -32,6 +32,11 @@ returns c =
     let none = no-more-classes (a .product) (a .b .now) (l .loop .j) (c .before .class-at .ensures) (c .if1 .taken) in
     record { is = in-no-class (a .product) (a .b .now) (l .loop .j) (l .loop .left) (l .loop .inv .1) none; carries = tt }
 
+class-section-requires : tie.Need-class-section-requires Inv-loop μ-loop
+class-section-requires c κs =
+    let total = c .before .class-total .ensures in
+    (c .before .before .before .before .before .before .before .before .pre, c .before .before .section-count .ensures, omega arith)
+
 returns-2 : tie.Need-returns-2 Inv-loop μ-loop
 returns-2 c =
     let at-class = c .before .before .before .before .before in
@@ -77,7 +82,7 @@ section-at-spec =
     returns
     (λ c κs. search needs)
     (λ c κs. search needs)
-    (λ c κs. search needs)
+    class-section-requires
     returns-2
     (λ c. search needs)
     loop-less
