@@ -4,6 +4,7 @@ use attribute_tables::ways;
 use attribute_tables::ways::Derived;
 use class_tables::Product;
 use class_tables::classes;
+use class_tables::sizes;
 use table::Which;
 ghost use mathlib.Core.Path.{_≡_};
 ghost use mathlib.Core.Bool.{true};
@@ -51,10 +52,10 @@ fn in_entry(product: Product, class: u16, n: u16) -> usize
 
 // How many bytes an attribute has.
 fn size_of(product: Product, class: u16, n: u16) -> usize
+    requires { ⌜ supported (class-for product class) n ≡ true ⌝ }
     ensures { λ r. ⌜ r ≡ size-of (class-for product class) n ⌝ }
 {
-    let a = attribute_tables::attribute_of(product, class, n);
-    a.size
+    bits::digit(sizes::sizes(product, class), n)
 }
 
 // An attribute of an instance whose contents begin at `at`: its size, and where its content comes from.
