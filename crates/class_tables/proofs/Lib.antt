@@ -8,3 +8,4 @@ pub mod Views
 pub mod Offsets
 pub mod MaskLaws
 pub mod SizeLaws
+pub mod RuleLines

@@ -70,7 +70,7 @@ absent-means = refl
 -- ---- what it says of each class and attribute
 
 -- what is found, or that nothing is
-told {ℓ} : {X : Type ℓ} {A : Type 0} (o : Option A) → (o ≡ none → X) → ((a : A) → o ≡ some a → X) → X
+pub told {ℓ} : {X : Type ℓ} {A : Type 0} (o : Option A) → (o ≡ none → X) → ((a : A) → o ≡ some a → X) → X
 told none f g = f refl
 told (some a) f g = g a refl
 
@@ -88,7 +88,7 @@ attributes-are pr c =
     alike (some k) none h = none-some (sym h)
     alike (some k) (some m) h = some-eq h
 
-any-rule : (r : Rule) → is-any r ≡ true → r ≡ Any
+pub any-rule : (r : Rule) → is-any r ≡ true → r ≡ Any
 any-rule Any h = refl
 any-rule (Range low high) h = never h
 any-rule (Listed x y) h = never h
@@ -120,7 +120,7 @@ module _ (pr : Product) (c n : ℕ) where
       (λ f. let z : none ≡ some a = rw f at e in none-some z)
       (λ t f. every-find (fits-in k) t (every-find (λ c m. every (fits-in (class-for pr c)) m) (lines-of pr) (lines-fit pr) c t f) n a (rw f at e))
 
-  not-there-if : find n m ≡ none → supported k n ≡ false
+  pub not-there-if : find n m ≡ none → supported k n ≡ false
   not-there-if e = rw (attributes-are pr c, find-each (λ n a. meaning a) n m, e) refl
 
   pub described-here : DescribedIn k n (line-for pr c n)
