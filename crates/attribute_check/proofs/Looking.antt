@@ -2,11 +2,12 @@
 use Prim.Native.Nat.{ℕ, zero, suc, _+_, _≤_, _<_}
 use native.Mathlib.Omega.{arith}
 use mathlib.Core.Path.{_≡_, refl, sym, _∙_, ap}
-use mathlib.Core.Bool.{Bool}
+use mathlib.Core.Bool.{Bool, true, _||_}
 use mathlib.Core.Logic.{_≢_}
 use mathlib.Core.List.{List}
 use lib.ListN.{length, getD}
 use lib.Seq.{drop-cons}
+use lib.Dec.{eqb}
 use Rattle.rules.specs.Bytes.{number, number-from}
 use Rattle.rules.specs.Catalogue.{Class}
 use Rattle.rules.specs.Catalogue as rules
@@ -16,8 +17,9 @@ use Rattle.class_tables.specs.declared.Rule.the-variants.{Pointer}
 use Rattle.class_tables.specs.declared.Attribute.{Attribute}
 use Rattle.class_tables.specs.Describes.{offset-of, DescribedIn, Looked}
 use Rattle.class_tables.proofs.Offsets.{is-among-stored, offset-fits}
-use Rattle.attribute_check.specs.Judges.{fixed-at, legal-at, legal-by, looked-at, Judgeable}
+use Rattle.attribute_check.specs.Judges.{fixed-at, legal-at, legal-by, looked-at, is-met, Judgeable}
 use Rattle.rules.specs.Legal.{passes}
+use Rattle.rules.proofs.Laws.{eqb-false}
 
 -- what a line says, it can be judged by
 pub judgeable : {k : Class} {n : ℕ} {a : Attribute} → DescribedIn k n a → Judgeable k a
@@ -44,12 +46,25 @@ module _ (k : Class) (n : ℕ) (b : List ℕ) (at : ℕ) (s : Looked k n) (room 
       let i = inside in
       rw (s .fixed, s .one, drop-cons b (at + offset-of k n) 0 (omega arith)) (omega arith)
 
-  looked-number : (m : ℕ) (r : Rule) (c : ℕ) (others : ℕ → List ℕ) → r ≡ Pointer c → m ≢ 0 → number (others m) ≡ looked-at r m others
-  looked-number zero r c others e z = absurd (z refl)
-  looked-number (suc m) r c others e z = rw e refl
-
   -- the byte that the code reads
-  pub looked-condition : {r : Attribute} → DescribedIn k n r → {x c : ℕ} {rule : Rule} → rule ≡ Pointer c → n ≢ 0 → x ≡ getD b (at + r .at) 0
-      → x ≡ looked-at rule n (fixed-at k b at)
-  looked-condition {r} d {x} {c} {rule} e z h =
-      h ∙ ap (λ (o : ℕ). getD b (at + o) 0) (d .placed (s .kept) (s .is-there)) ∙ sym looked-byte ∙ looked-number n rule c (fixed-at k b at) e z
+  pub looked-there : {r : Attribute} → DescribedIn k n r → {x : ℕ} → x ≡ getD b (at + r .at) 0 → x ≡ number (fixed-at k b at n)
+  looked-there d h = h ∙ ap (λ (o : ℕ). getD b (at + o) 0) (d .placed (s .kept) (s .is-there)) ∙ sym looked-byte
+
+-- ---- what a pointer is judged by
+
+module _ (others : ℕ → List ℕ) where
+  pub looked-condition : (n : ℕ) {x c : ℕ} {rule : Rule} → rule ≡ Pointer c → n ≢ 0 → x ≡ number (others n) → x ≡ looked-at rule n others
+  looked-condition zero e z h = absurd (z refl)
+  looked-condition (suc n) e z h = rw e h
+
+  pub always-met : (n : ℕ) → n ≡ 0 → true ≡ is-met n others
+  always-met n e = rw e refl
+
+  pub met-by-1 : (n : ℕ) {x : ℕ} → n ≢ 0 → x ≡ number (others n) → eqb x 1 ≡ is-met n others
+  met-by-1 zero z h = absurd (z refl)
+  met-by-1 (suc n) z h = rw h refl
+
+  -- as the judging by a line tests it
+  pub met-is : (n : ℕ) {c : ℕ} {rule : Rule} → rule ≡ Pointer c → (eqb n 0 || eqb (looked-at rule n others) 1) ≡ is-met n others
+  met-is zero e = refl
+  met-is (suc n) e = let z : suc n ≢ 0 = omega arith in rw (eqb-false (suc n) 0 z, e) refl

@@ -85,7 +85,7 @@ module _ (k : Class) (v : List ℕ) (others : ℕ → List ℕ) {a : Attribute} 
     abbrev judged : Bool
     judged = passes there ((meaning a .rule) v others)
 
-    from-verdict : {w : Verdict} → r ≡ w → passes there (verdict-of w) ≡ judged
+    pub from-verdict : {w : Verdict} → r ≡ w → passes there (verdict-of w) ≡ judged
     from-verdict e = ap (λ (x : Verdict). passes there (verdict-of x)) (sym e) ∙ ap (passes there) verdict-is
 
     pub found-fine : r ≡ Fine → true ≡ judged

@@ -1,11 +1,11 @@
 -- Legal contents, told from the bytes of an instance whose contents begin at a place of b.
 use Prim.Native.Nat.{ℕ, zero, suc, _+_, _<_}
 use mathlib.Core.Path.{_≡_}
-use mathlib.Core.Bool.{Bool, not, cond}
+use mathlib.Core.Bool.{Bool, true, not, cond}
 use mathlib.Core.Logic.{_≢_}
 use mathlib.Core.List.{List, []}
 use lib.ListN.{length, take, drop}
-use lib.Dec.{ltb, leb}
+use lib.Dec.{eqb, ltb, leb}
 use Rattle.rules.specs.Maps.{_and_, keys, keep}
 use Rattle.rules.specs.Bytes.{number}
 use Rattle.rules.specs.Catalogue.{Class, Catalogue, attribute, size-of, is-fixed}
@@ -51,6 +51,11 @@ looked-at (Range low high) n others = 0
 looked-at (Listed a b) n others = 0
 looked-at (Pointer c) zero others = 0
 looked-at (Pointer c) (suc n) others = number (others (suc n))
+
+-- is a pointer judged, by this attribute?
+abbrev pub is-met : ℕ → (ℕ → List ℕ) → Bool
+is-met zero others = true
+is-met (suc n) others = eqb (number (others (suc n))) 1
 
 -- is v legal for the attribute that a line describes, where these instances are there?
 unfoldable pub legal-by : (ℕ → ℕ → Bool) → Class → List ℕ → ℕ → Attribute → List ℕ → Bool

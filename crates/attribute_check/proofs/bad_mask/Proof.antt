@@ -1,5 +1,4 @@
 use native.Mathlib.Omega.{arith}
-use mathlib.Core.Path.{sym, _∙_}
 use mathlib.Core.Logic.{⊎-elim}
 use borrow.Author.Needs.{needs}
 use Rattle.bits.proofs.MaskWalk.{bit-in, fewer-left}
@@ -14,9 +13,8 @@ use Rattle.attribute_check.proofs.bad_mask.Lts as lts
 use Rattle.bits.proofs.bit_of.Reads as bit-of-reads
 use Rattle.bits.proofs.first_named.Reads as first-named-reads
 use Rattle.attribute_tables.proofs.attribute_of.Reads as attribute-of-reads
-use Rattle.attribute_check.proofs.is_legal.Reads as is-legal-reads
+use Rattle.attribute_check.proofs.fits.Reads as fits-reads
 use Rattle.class_tables.proofs.Tables.{described}
-use Rattle.attribute_check.proofs.Looking.{judgeable, by-its-line}
 
 abbrev Inv-loop : tie.InvT-loop
 Inv-loop live pr class asked v own at left₀ from₀ bad₀ left from bad = Marked (is-in (cat-of pr) live) (class-for pr class) own at asked v left from bad
@@ -33,20 +31,21 @@ add-to c =
     let z = part-room _ _ _ _ (l .inv) (c .before .before .first-named .ensures) (size-is (described (c .before .attribute-of .ensures))) in
     omega arith
 
-part-is-legal-end : tie.Need-part-is-legal-end Inv-loop μ-loop
-part-is-legal-end c =
+part-fits-end : tie.Need-part-fits-end Inv-loop μ-loop
+part-fits-end c =
     let l = c .before .before .before .before .before .loop in
     let z = part-room _ _ _ _ (l .inv) (c .before .before .before .first-named .ensures) (size-is (described (c .before .before .attribute-of .ensures))) in
     omega arith
 
-is-legal-requires : tie.Need-is-legal-requires Inv-loop μ-loop
-is-legal-requires c κs =
+fits-requires : tie.Need-fits-requires Inv-loop μ-loop
+fits-requires c κs =
     let l = c .before .before .before .before .before .before .loop in
-    let d = described (c .before .before .before .attribute-of .ensures) in
+    let f = c .before .before .before .before .first-named .ensures in
     let e = c .before .before .before .before .before .before .before .before .before .before in (
       e .pre .0,
-      judgeable d,
-      part-sized _ _ _ _ (l .inv) (c .before .before .before .before .first-named .ensures) (size-is d) ∙ sym (size-is d),
+      f .from-one,
+      f .to-sixteen,
+      part-sized _ _ _ _ (l .inv) f (size-is (described (c .before .before .before .attribute-of .ensures))),
       e .pre .2,
     )
 
@@ -67,9 +66,8 @@ loop-again c =
     let l = c .before .before .before .before .before .before .before .before .loop in
     let f = c .before .before .before .before .before .before .first-named .ensures in
     let b = c .before .before .before .bit-of .ensures in
-    let d = described (c .before .before .before .before .before .attribute-of .ensures) in
-    let z = size-is d in
-    let t = c .before .is-legal .ensures ∙ by-its-line _ d _ _ _ in
+    let z = size-is (described (c .before .before .before .before .before .attribute-of .ensures)) in
+    let t = c .before .fits2 .ensures in
     ⊎-elim
     (λ w. one-marked _ _ _ _ (l .inv) f z b t (w .0 .taken) (omega arith))
     (λ w. none-marked _ _ _ _ (l .inv) f z b t (w .0 .left) (omega arith))
@@ -91,8 +89,8 @@ bad-mask-spec =
     (λ c κs. search needs)
     (λ c. search needs)
     (λ c. search needs)
-    part-is-legal-end
-    is-legal-requires
+    part-fits-end
+    fits-requires
     add-bad
     sub-left
     loop-less
