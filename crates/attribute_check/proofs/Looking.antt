@@ -37,8 +37,8 @@ module _ (k : Class) (n : ℕ) (b : List ℕ) (at : ℕ) (s : Looked k n) (room 
   inside : offset-of k n + 1 ≤ contents-width k
   inside = let z = offset-fits k n (is-among-stored k n (s .is-there) (s .kept)) in let o = s .one in omega arith
 
-  pub looked-room : {r : Attribute} → DescribedIn k n r → at + r .at < length b
-  looked-room {r} d = let i = inside in let o : r .at ≡ offset-of k n = d .placed (s .kept) (s .is-there) in omega arith
+  pub looked-room : {o : ℕ} → o ≡ offset-of k n → at + o < length b
+  looked-room e = let i = inside in omega arith
 
   looked-byte : number (fixed-at k b at n) ≡ getD b (at + offset-of k n) 0
   unfolding fixed-at number-from
@@ -47,8 +47,8 @@ module _ (k : Class) (n : ℕ) (b : List ℕ) (at : ℕ) (s : Looked k n) (room 
       rw (s .fixed, s .one, drop-cons b (at + offset-of k n) 0 (omega arith)) (omega arith)
 
   -- the byte that the code reads
-  pub looked-there : {r : Attribute} → DescribedIn k n r → {x : ℕ} → x ≡ getD b (at + r .at) 0 → x ≡ number (fixed-at k b at n)
-  looked-there d h = h ∙ ap (λ (o : ℕ). getD b (at + o) 0) (d .placed (s .kept) (s .is-there)) ∙ sym looked-byte
+  pub looked-there : {o : ℕ} → o ≡ offset-of k n → {x : ℕ} → x ≡ getD b (at + o) 0 → x ≡ number (fixed-at k b at n)
+  looked-there e h = h ∙ ap (λ (o : ℕ). getD b (at + o) 0) e ∙ sym looked-byte
 
 -- ---- what a pointer is judged by
 

@@ -17,13 +17,13 @@ shared-slice-read-wide : tie.Need-shared-slice-read-wide
 shared-slice-read-wide c =
     let e = c .before .before .before .before in
     looked-room (class-for (e .args .product) (e .args .class)) (e .args .n) (e .args .own .now) (e .args .at) (e .pre .0) (e .pre .1)
-    (described (c .before .before .attribute-of .ensures))
+    (described (c .before .before .attribute-of .ensures) .placed (e .pre .0 .kept) (e .pre .0 .is-there))
 
 returns : tie.Need-returns
 returns c =
     let e = c .before .before .before .before .before in
     looked-there (class-for (e .args .product) (e .args .class)) (e .args .n) (e .args .own .now) (e .args .at) (e .pre .0) (e .pre .1)
-    (described (c .before .before .before .attribute-of .ensures)) (c .wide .ensures .0)
+    (described (c .before .before .before .attribute-of .ensures) .placed (e .pre .0 .kept) (e .pre .0 .is-there)) (c .wide .ensures .0)
 
 pub looked-spec : {M : Type 1} → statement M
 looked-spec = tie.close (tie.spec (λ c κs. search needs) add-wide shared-slice-read-wide (λ c κs. search needs) returns)
