@@ -1,4 +1,5 @@
 // Is a content legal, and which of several aren't?
+use attribute_tables::begins;
 use attribute_tables::content_rules;
 use attribute_tables::judge;
 use class_tables::Attribute;
@@ -6,6 +7,7 @@ use class_tables::Product;
 use class_tables::Rule;
 use class_tables::Verdict;
 use class_tables::masks;
+use class_tables::sizes;
 use table::instances;
 ghost use mathlib.Core.Path.{_≡_};
 ghost use mathlib.Core.Logic.{_≢_};
@@ -39,8 +41,7 @@ fn looked(product: Product, class: u16, n: u16, own: &[u8], at: usize) -> u16
     requires { ⌜ Looked (class-for product class) n × (at + contents-width (class-for product class) ≤ length (now own)) ⌝ }
     ensures { λ r. ⌜ r ≡ number (fixed-at (class-for product class) (now (own .entry)) at n) ⌝ }
 {
-    let b = attribute_tables::attribute_of(product, class, n);
-    octets::wide(own[at + b.at])
+    octets::wide(own[at + begins::begin_of(product, class, n)])
 }
 
 // The number in the attribute of the same instance that a pointer is judged by; 0 if it is by none.
@@ -137,12 +138,13 @@ pub fn bad_mask(
         × (at + contents-width (class-for product class) ≤ length (now own)) ⌝ }
     ensures { λ r. ⌜ r ≡ mask (bad-among (is-in (cat-of product) (now (live .entry))) (class-for product class) (now (own .entry)) at (named asked) (now (v .entry))) ⌝ }
 {
+    let sizes = sizes::sizes(product, class);
     let mut left = asked;
     let mut from = 0;
     let mut bad = 0;
     while left != 0 {
         let n = bits::first_named(left);
-        let to = from + attribute_tables::attribute_of(product, class, n).size;
+        let to = from + bits::digit(sizes, n);
         let bit = bits::bit_of(n);
         if !fits(live, product, class, n, &v[from..to], own, at) {
             bad += bit;

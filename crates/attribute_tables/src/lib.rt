@@ -1,6 +1,6 @@
-// The attributes of each class, a line each, in the order of document 01; and whether a content is legal by its line.
+// The attributes of each class, a line each, in the order of document 01; of each line alone where it begins, its rule and whose bytes it is
+// read from; and whether a content is legal by its line.
 pub mod begins;
-// The attributes of each class, a line each, in the order of document 01; their rules alone; and whether a content is legal by its line.
 pub mod content_rules;
 pub mod judge;
 pub mod ways;
