@@ -1,16 +1,16 @@
 -- What holds of every class of every product, whatever its number: one test each, computed over all that are built.
 use Prim.Native.Nat.{ℕ, _+_, _≤_, _<_}
 use mathlib.Core.Path.{_≡_, refl}
-use mathlib.Core.Bool.{true, false, Bool}
+use mathlib.Core.Bool.{true, false, not, Bool}
 use mathlib.Core.List.{List, []}
 use lib.ListN.{length}
 use lib.Dec.{eqb, ltb, leb}
-use Rattle.rules.specs.Maps.{_and_, _or_, keys, every, rising, among, all, keep}
+use Rattle.rules.specs.Maps.{_and_, _or_, keys, every, rising, among, all, same, keep}
 use Rattle.rules.specs.Masks.{mask, total}
 use Rattle.rules.specs.Catalogue.{constant, copied, Source, stored, of-creator, count-of, Class, Catalogue, class, attribute, supported, size-of, stored-numbers}
 use Rattle.rules.specs.Catalogue.{carried-numbers, is-created, leader, no-class}
 use Rattle.rules.specs.Walks.{sections-of}
-use Rattle.rules.proofs.Laws.{or-cases, or-right, eqb-true, true-false, both, eqb-eq, leb-le, ltb-lt, all-among}
+use Rattle.rules.proofs.Laws.{or-cases, or-right, eqb-true, true-false, not-true, same-eq, both, eqb-eq, leb-le, ltb-lt, all-among}
 use Rattle.rules.proofs.Lookups.{unknown-class}
 use Rattle.bits.proofs.Masks.{Within, is-attribute, rising-within}
 use Rattle.store.specs.Layout.{place-width, contents-width}
@@ -61,6 +61,12 @@ module _ (pr : Product) (c : ℕ) where
   pub carried-fit : total (size-of k) (carried-numbers k) ≤ 32
   carried-fit = leb-le (total (size-of k) (carried-numbers k)) 32
       (of-each (λ k. leb (total (size-of k) (carried-numbers k)) 32) (unfold computing-tables in (refl, refl)) pr c)
+
+  -- of a class that can be created, it is all that is stored
+  pub all-carried : is-created (k .creation) ≡ true → carried-numbers k ≡ stored-numbers k
+  all-carried cr =
+      or-cases (of-each (λ k. not (is-created (k .creation)) or same (carried-numbers k) (stored-numbers k)) (unfold computing-tables in (refl, refl)) pr c)
+      (λ e. true-false cr (not-true e)) (λ e. same-eq (carried-numbers k) (stored-numbers k) e)
 
   -- the bits of what isn't kept are others than those of what is
   pub bits-apart : mask (carried-numbers k) + mask (keys (k .unkept)) < 65536

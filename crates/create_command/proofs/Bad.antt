@@ -104,10 +104,7 @@ module _ (pr : Product) (c : ℕ) where
       pub is-number : (1 ≤ u .number) × (u .number ≤ 16)
       is-number = (leb-le 1 (u .number) (both fits .0), leb-le (u .number) 16 (both (both fits .1) .0))
 
-      module _ {m from : ℕ} (e : m ≡ mask (carried-numbers k)) (f : from ≡ total (size-of k) (named m)) where
-        from-is : from ≡ kept
-        from-is = f ∙ ap (total (size-of k)) (ap named e ∙ carried-named pr c)
-
+      module _ {from : ℕ} (from-is : from ≡ kept) where
         pub unkept-room : from + u .size ≤ length v
         unkept-room = let z = leb-le (kept + u .size) 32 (both (both fits .1) .1) in let y = from-is in omega arith
 

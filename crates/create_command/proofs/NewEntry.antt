@@ -4,17 +4,19 @@ use native.Mathlib.Nat.{zero-add, add-zero}
 use native.Mathlib.Omega.{arith}
 use mathlib.Core.Path.{_≡_, sym, _∙_, ap, refl}
 use mathlib.Core.Bool.{true}
-use mathlib.Core.List.{List, _++_, map, append-nil, append-assoc}
-use lib.ListN.{length, drop, replicate, length-drop, length-replicate, length-append}
-use lib.Seq.{drop-drop}
+use mathlib.Core.List.{List, [], _∷_, _++_, map, append-nil, append-assoc}
+use lib.ListN.{length, take, drop, replicate, length-drop, length-replicate, length-append}
+use lib.Seq.{drop-drop, length-take-le}
 use Rattle.rules.specs.Bytes.{laid, fill, bytes}
 use Rattle.rules.specs.Catalogue.{is-created, Catalogue, Class, leader, attribute, carried-numbers, size-of, stored-numbers, family, is-fixed, key}
 use Rattle.rules.specs.Commands.{carried-by, new-entry, cut, new-contents}
-use Rattle.rules.specs.Maps.{keys, each, gather, Map, among}
+use Rattle.rules.specs.Maps.{keys, find, each, gather, Map, among}
+use Rattle.rules.specs.Masks.{total}
 use Rattle.rules.specs.State.{Contents, content, overwrite, class-of, number-of}
 use Rattle.rules.proofs.ByteLaws.{keys-cut}
 use Rattle.rules.proofs.Families.{numbered}
-use Rattle.rules.proofs.Laws.{true-false, both}
+use Rattle.rules.proofs.Laws.{true-false, both, eqb-true, eqb-false}
+use Rattle.rules.proofs.MapLaws.{Up, up-weaken, rising-up}
 use Rattle.rules.proofs.Lookups.{leads-itself}
 use Rattle.octets.proofs.Laid.{filled}
 use Rattle.octets.proofs.Parted.{part-behind, part-filled, part}
@@ -23,13 +25,14 @@ use Rattle.legality.proofs.Contents.{content-over}
 use Rattle.legality.proofs.NewContents.{C-is-created, content-of-new}
 use Rattle.store.specs.Layout.{place-width, entry-bytes, contents-bytes, contents-width, place, key-length}
 use Rattle.store.specs.Positions.{inside}
+use Rattle.store.proofs.ContentsBack.{bytes-of-cut}
 use Rattle.class_tables.specs.Built.{class-for, cat-of}
 use Rattle.class_tables.specs.Describes.{offset-of}
 use Rattle.class_tables.specs.Families.{Companion}
 use Rattle.class_tables.specs.declared.Product.{Product}
 use Rattle.class_tables.proofs.ClassLaws.{inside-fits, leader-in-front, companion-follows, companion-not-created, companion-led, family-led, stored-there}
 use Rattle.class_tables.proofs.EveryProduct.{well-formed-of}
-use Rattle.class_tables.proofs.Facts.{contents-fit, carried-fit, carried-stored}
+use Rattle.class_tables.proofs.Facts.{contents-fit, carried-fit, carried-stored, all-carried}
 use Rattle.class_tables.proofs.Offsets.{offset-fits}
 use Rattle.attribute_check.specs.Judges.{bytes-at}
 use Rattle.attribute_write.specs.Lays.{laid-values, firsts, leading-class}
@@ -50,6 +53,25 @@ expected pr c v = fill place-width (entry-bytes (new-entry (cat-of pr) c (carrie
 zeros-behind : (n : ℕ) (x : List ℕ) → length x ≤ n → x ++ drop (length x) (replicate n 0) ≡ fill n x
 unfolding laid
 zeros-behind n x h = filled n x h (ap (λ (m : ℕ). x ++ drop m (replicate n 0)) (sym (zero-add (length x))))
+
+-- ---- new contents over old ones with the same numbers
+
+overwrite-past : (n : ℕ) (w : List ℕ) (m r : Contents) → Up (suc n) (keys r) → overwrite ((n, w) ∷ m) r ≡ overwrite m r
+unfolding overwrite find each keys
+overwrite-past n w m [] u = refl
+overwrite-past n w m (e ∷ r) u =
+    let z = u .0 in
+    rw (eqb-false (e .0) n (λ q. omega arith), overwrite-past n w m r (up-weaken (suc n) (suc (e .0)) (keys r) (omega arith) (u .1)))
+
+overwrite-cut : (size : ℕ → ℕ) (b : ℕ) (l v x : List ℕ) → Up b l → overwrite (cut size l v) (cut size l x) ≡ cut size l v
+unfolding overwrite find each cut
+overwrite-cut size b [] v x u = refl
+overwrite-cut size b (n ∷ l) v x u =
+    let m : Contents = cut size l (drop (size n) v) in
+    let r : Contents = cut size l (drop (size n) x) in
+    let past : overwrite ((n, take (size n) v) ∷ m) r ≡ overwrite m r = overwrite-past n (take (size n) v) m r (rw (keys-cut size l (drop (size n) x)) (u .1)) in
+    rw (eqb-true n n refl)
+    (ap (λ (y : Contents). (n, take (size n) v) ∷ y) (past ∙ overwrite-cut size (suc n) l (drop (size n) v) (drop (size n) x) (u .1)))
 
 module _ (pr : Product) (c : ℕ) (cr : is-created (class-for pr c .creation) ≡ true) (v : List ℕ) (long : length v ≡ 32) where
   abbrev cat : Catalogue
@@ -173,6 +195,22 @@ module _ (pr : Product) (c : ℕ) (cr : is-created (class-for pr c .creation) �
 
   blank-length : length blank ≡ place-width
   blank-length = length-replicate {A = ℕ} place-width 0
+
+  -- the carried bytes stand as they come: they are all that is stored
+  pub carried-stands : with-carried pr c v ≡ laid 0 (take (total (size-of k) (carried-numbers k)) v) blank
+  unfolding with-carried carried-by laid contents-width
+  carried-stands =
+      let l : List ℕ = stored-numbers k in
+      let all : carried-numbers k ≡ l = all-carried pr c cr in
+      let fit = carried-fit pr c in
+      let held-is : overwrite (cut (size-of k) (carried-numbers k) v) (cut (size-of k) l blank) ≡ cut (size-of k) (carried-numbers k) v =
+      rw all (overwrite-cut (size-of k) 0 l v blank (rising-up l (stored-rise pr c))) in
+      let bytes : List ℕ = take (total (size-of k) (carried-numbers k)) v in
+      let len : 0 + length bytes ≡ total (size-of k) l =
+      zero-add (length bytes) ∙ length-take-le (total (size-of k) (carried-numbers k)) v (omega arith) ∙ ap (total (size-of k)) all in
+      own-is blank blank-length
+      ∙ ap (λ (m : Contents). contents-bytes m ++ drop (contents-width k) blank) held-is
+      ∙ (λ i. bytes-of-cut (size-of k) (carried-numbers k) v i ++ drop (sym len i) blank)
 
   pub carried-fills : length (with-carried pr c v) ≡ place-width
   unfolding with-carried

@@ -10,7 +10,6 @@ use lib.Bits.{bitAnd}
 use borrow.Rule.Slice.PartMut.{putMid}
 use Rattle.rules.specs.Bytes.{byte, bytes, fill, laid}
 use Rattle.rules.specs.Catalogue.{Class, size-of, stored-numbers, carried-numbers, is-created, key}
-use Rattle.rules.specs.Commands.{cut, carried-by}
 use Rattle.rules.specs.Masks.{named, mask, total}
 use Rattle.rules.specs.Messages.{bad-parameter}
 use Rattle.rules.specs.State.{Entry, class-of, number-of}
@@ -22,15 +21,15 @@ use Rattle.class_tables.specs.Built.{cat-of, class-for}
 use Rattle.class_tables.specs.Families.{Companion}
 use Rattle.class_tables.specs.declared.Product.{Product}
 use Rattle.class_tables.proofs.ClassLaws.{inside-fits}
-use Rattle.class_tables.proofs.Facts.{carried-stored, contents-fit, carried-fit}
+use Rattle.class_tables.proofs.Facts.{carried-fit}
 use Rattle.table.specs.Counts.{moved-on}
 use Rattle.table.specs.Places.{keys-in}
 use Rattle.table.specs.Spots.{rank, inserted}
 use Rattle.table.proofs.Located.{how-many-keys}
 use Rattle.table.proofs.TableMoved.{rank-fits}
-use Rattle.attribute_write.specs.Lays.{laid-values, firsts, leading-class, all-stored, Laying, LayingFirsts}
+use Rattle.attribute_write.specs.Lays.{laid-values, firsts, leading-class, LayingFirsts}
 use Rattle.create_command.specs.New.{other-numbers, with-others, with-carried, with-companion, with-place}
-use Rattle.create_command.proofs.NewEntry.{expected, is-made, carried-fills}
+use Rattle.create_command.proofs.NewEntry.{expected, is-made, carried-fills, carried-stands}
 use Rattle.create_command.proofs.Others.{carried-named, others-named, may-lay}
 
 -- ---- the first contents that no Create carries
@@ -49,25 +48,23 @@ module _ (pr : Product) (c : ℕ) {st ca m at : ℕ} (s : st ≡ mask (stored-nu
 
 -- ---- what a Create carries
 
-module _ (pr : Product) (c : ℕ) {m : ℕ} (e : m ≡ mask (carried-numbers (class-for pr c))) (v : List ℕ) (long : length v ≡ 32) where
+module _ (pr : Product) (c : ℕ) (v : List ℕ) (long : length v ≡ 32) where
   abbrev k : Class
   k = class-for pr c
 
-  carried-are : named m ≡ carried-numbers k
-  carried-are = ap named e ∙ carried-named pr c
+  pub carried-room : total (size-of k) (carried-numbers k) ≤ length v
+  carried-room = let z = carried-fit pr c in omega arith
 
-  pub carried-room : total (size-of k) (named m) ≤ length v
-  carried-room = let z = ap (total (size-of k)) carried-are in let y = carried-fit pr c in omega arith
-
-  pub may-lay-carried : Laying k 0 (named m) v (replicate place-width 0)
-  may-lay-carried = record { are-stored = ap (all-stored k) carried-are ∙ carried-stored pr c; inside = let z = contents-fit pr c in omega arith; carried = carried-room }
+  pub named-room : {m : ℕ} → m ≡ mask (carried-numbers k) → total (size-of k) (named m) ≤ length v
+  named-room e = let z = ap (total (size-of k)) (ap named e ∙ carried-named pr c) in let y = carried-room in omega arith
 
   -- ---- a new entry's contents
 
-  module _ (cr : is-created (k .creation) ≡ true) {own : List ℕ} (lays : own ≡ laid-values k 0 (cut (size-of k) (named m) v) (replicate place-width 0)) where
+  module _ (cr : is-created (k .creation) ≡ true) {size : ℕ} (e : size ≡ total (size-of k) (carried-numbers k)) {own : List ℕ} (copied : own ≡ laid 0 (take (size - 0) v) (replicate place-width 0)) where
     carried-laid : own ≡ with-carried pr c v
-    unfolding with-carried carried-by
-    carried-laid = lays ∙ ap (λ (n : List ℕ). laid-values k 0 (cut (size-of k) n v) (replicate place-width 0)) carried-are
+    carried-laid =
+        let all : size - 0 ≡ total (size-of k) (carried-numbers k) = omega arith in
+        copied ∙ ap (λ (n : ℕ). laid 0 (take n v) (replicate place-width 0)) all ∙ sym (carried-stands pr c cr v long)
 
     pub carried-long : length own ≡ place-width
     carried-long = ap length carried-laid ∙ carried-fills pr c cr v long

@@ -2,6 +2,7 @@
 use class_tables::Product;
 use class_tables::classes;
 use class_tables::masks;
+use class_tables::sizes;
 use outcome::BAD_PARAMETER;
 use outcome::INSTANCE_EXISTS;
 use outcome::NO_PLACE;
@@ -48,20 +49,15 @@ fn lay_others(c: &mut [u8], product: Product, class: u16, own: &[u8])
     );
 }
 
-// Writes the contents of a new instance and of those that come with it.
+// Writes the contents of a new instance and of those that come with it. What a Create carries is all that its class stores, in the same
+// order, so that the bytes stand as they come.
 fn new_contents(c: &mut [u8], product: Product, class: u16, v: &[u8])
     requires { ⌜ (now c ≡ replicate place-width 0) × (is-created (class-for product class .creation) ≡ true) × (length (now v) ≡ 32) ⌝ }
     ensures { λ _. ⌜ now (c .exit) ≡ fill place-width (entry-bytes (new-entry (cat-of product) class (carried-by (class-for product class) (now (v .entry))))) ⌝ }
 {
     let mut own = [0u8; ENTRY];
-    attribute_write::lay_values(
-        &mut own,
-        0,
-        product,
-        class,
-        masks::carried_mask(product, class),
-        v,
-    );
+    let size = sizes::carried_size(product, class);
+    octets::copy_in(&mut own, 0, &v[0..size]);
     octets::copy_in(c, 0, &own);
     lay_others(c, product, class, &own);
     let companion = classes::companion_of(product, class);
@@ -89,7 +85,7 @@ fn unkept_bit(product: Product, class: u16, v: &[u8]) -> u16
     if u.number == 0 {
         return 0;
     }
-    let from = mask_tests::total_size(product, class, masks::carried_mask(product, class));
+    let from = sizes::carried_size(product, class);
     let to = from + u.size;
     if octets::zeros(&v[from..to]) {
         return 0;

@@ -1,6 +1,6 @@
 use Rattle.create_command.proofs.Bad.{judged-is, sum-small, sum-is}
 use Rattle.class_tables.proofs.Facts.{contents-fit}
-use Rattle.create_command.proofs.Steps.{carried-room}
+use Rattle.create_command.proofs.Steps.{named-room}
 use native.Mathlib.Omega.{arith}
 use borrow.Author.Needs.{needs}
 use Rattle.create_command.proofs.bad_in_create.Statement.{statement}
@@ -17,7 +17,7 @@ bad-mask-requires c κs =
     let a = f .args in
     let fit = contents-fit (a .product) (a .class) in
     let long = f .pre .3 in
-    (f .pre .0, carried-room (a .product) (a .class) (c .carried-mask .ensures) (a .v .now) (f .pre .2), omega arith)
+    (f .pre .0, named-room (a .product) (a .class) (a .v .now) (f .pre .2) (c .carried-mask .ensures), omega arith)
 
 add-result : tie.Need-add-result
 add-result c =
