@@ -96,7 +96,7 @@ pub fn naming(b: &[u8], class: u16, at: usize, number: u16) -> usize
     let mut i = 0;
     while i < n {
         let p = PLACES + PLACE * i;
-        // few places hold the number, and many are of the class
+        // the number first: as a rule fewer places hold it than are of the class
         if octets::number_at(b, p + (KEY + at)) == number {
             if octets::number_at(b, p) == class {
                 count += 1;
