@@ -8,7 +8,8 @@ use lib.ListN.{length, take, drop}
 use Rattle.rules.specs.Maps.{among, all}
 use Rattle.rules.specs.Bytes.{bytes, laid}
 use Rattle.rules.specs.Masks.{named}
-use Rattle.rules.specs.Catalogue.{copied, stored, Class, attribute, size-of, stored-numbers, leader}
+use Rattle.rules.specs.Catalogue.{copied, stored, Class, attribute, supported, size-of, is-stored, stored-numbers, leader}
+use Rattle.store.specs.Layout.{contents-width}
 use Rattle.rules.proofs.Laws.{never, both, eqb-eq, and-true, or-cases, among-here}
 use Rattle.bits.specs.Firsts as bits
 use Rattle.bits.proofs.MaskWalk.{none-left, and-the-others, Walked, nothing-walked, next-named, next-passes, one-walked}
@@ -18,11 +19,26 @@ use Rattle.class_tables.specs.Built.{cat-of, class-for}
 use Rattle.class_tables.specs.Meaning.{source-of}
 use Rattle.class_tables.specs.Describes.{offset-of, DescribedIn}
 use Rattle.class_tables.proofs.Views.{size-is, source-is}
+use Rattle.class_tables.proofs.Offsets.{offset-fits}
+use Rattle.class_tables.proofs.ClassLaws.{stored-there}
 use Rattle.attribute_write.specs.Lays.{laid-values, first-from, firsts, leading-class, LayingFirsts}
-use Rattle.attribute_write.proofs.Turns.{placed-at, lies-within}
 use Rattle.octets.proofs.Laid.{laid-nothing}
 use Rattle.class_tables.specs.declared.Product.{Product}
 use Rattle.class_tables.proofs.Facts.{copied-stored}
+
+-- ---- a stored attribute, and its line
+
+module _ (pr : Product) (c n : ℕ) (s : among n (stored-numbers (class-for pr c)) ≡ true) where
+  placed-at : {a : Attribute} → DescribedIn (class-for pr c) n a → a .at ≡ offset-of (class-for pr c) n
+  placed-at d = let z = stored-there pr c n s in d .placed (z .1) (z .0)
+
+  -- it lies within its instance's contents
+  lies-within : {a : Attribute} → DescribedIn (class-for pr c) n a → a .at + a .size ≤ contents-width (class-for pr c)
+  lies-within {a} d =
+      let z : offset-of (class-for pr c) n + size-of (class-for pr c) n ≤ contents-width (class-for pr c) = offset-fits (class-for pr c) n s in
+      let e : a .at ≡ offset-of (class-for pr c) n = placed-at d in
+      let g : a .size ≡ size-of (class-for pr c) n = size-is d in
+      omega arith
 
 -- ---- one attribute
 
@@ -74,29 +90,31 @@ module _ (pr : Product) (c n at : ℕ) (from b : List ℕ) (h : LayingFirsts (cl
   none-counted t = no-content (rw t refl)
 
   -- a copy
-  module _ {m : ℕ} (t : a .way ≡ Copied m) {e : ℕ} (led : e ≡ leader (cat-of pr) c) {s : Attribute} (g : DescribedIn (class-for pr e) m s) where
+  module _ {m : ℕ} (t : a .way ≡ Copied m) {e : ℕ} (led : e ≡ leader (cat-of pr) c) where
     is-copied : attribute k n .source ≡ stored (copied m)
     is-copied = sym (source-is d) ∙ ap (source-of (a .size)) t
 
-    source-at : s .at ≡ offset-of lead m
-    source-at =
-        let q : DescribedIn (class-for pr (leader (cat-of pr) c)) m s = rw led at g in
-        placed-at pr (leader (cat-of pr) c) m (copied-stored pr c n m its-stored is-copied) q
+    pub copy-kept : (supported (class-for pr e) m ≡ true) × (is-stored (attribute (class-for pr e) m .source) ≡ true)
+    copy-kept = rw led (stored-there pr (leader (cat-of pr) c) m (copied-stored pr c n m its-stored is-copied))
 
-    pub copy-room : s .at + a .size ≤ length from
-    unfolding among
-    copy-room =
-        let z = h .copied-from n m (among-here n []) is-copied in
-        let i = source-at in
-        let y = size-is d in
-        omega arith
+    module _ {start : ℕ} (begun : start ≡ offset-of (class-for pr e) m) where
+      source-at : start ≡ offset-of lead m
+      source-at = rw led at begun
 
-    pub first-copied : {b′ : List ℕ} → b′ ≡ laid (at + a .at) (take (s .at + a .size - s .at) (drop (s .at) from)) b
-        → b′ ≡ laid-values k at (firsts k lead from (n ∷ [])) b
-    unfolding first-from
-    first-copied e =
-        let z : s .at + a .size - s .at ≡ a .size = omega arith in
-        first-is (take (s .at + a .size - s .at) (drop (s .at) from)) e (rw (t, z, source-at) refl)
+      pub copy-room : start + a .size ≤ length from
+      unfolding among
+      copy-room =
+          let z = h .copied-from n m (among-here n []) is-copied in
+          let i = source-at in
+          let y = size-is d in
+          omega arith
+
+      pub first-copied : {b′ : List ℕ} → b′ ≡ laid (at + a .at) (take (start + a .size - start) (drop start from)) b
+          → b′ ≡ laid-values k at (firsts k lead from (n ∷ [])) b
+      unfolding first-from
+      first-copied e =
+          let z : start + a .size - start ≡ a .size = omega arith in
+          first-is (take (start + a .size - start) (drop start from)) e (rw (t, z, source-at) refl)
 
 -- ---- one attribute after another
 

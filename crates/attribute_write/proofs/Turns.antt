@@ -9,34 +9,17 @@ use lib.Seq.{drop-drop}
 use Rattle.rules.specs.Maps.{among}
 use Rattle.rules.specs.Bytes.{laid}
 use Rattle.rules.specs.Masks.{named}
-use Rattle.rules.specs.Catalogue.{Class, size-of, stored-numbers}
+use Rattle.rules.specs.Catalogue.{Class, attribute, supported, size-of, is-stored, stored-numbers}
 use Rattle.rules.specs.Commands.{cut}
-use Rattle.store.specs.Layout.{contents-width}
 use Rattle.bits.specs.Firsts.{First}
 use Rattle.bits.proofs.MaskWalk.{none-left, and-the-others, Walked, nothing-walked, next-passes, next-within, one-walked}
 use Rattle.octets.proofs.Laid.{length-laid}
-use Rattle.class_tables.specs.declared.Attribute.{Attribute}
 use Rattle.class_tables.specs.Built.{class-for}
-use Rattle.class_tables.specs.Describes.{offset-of, DescribedIn}
+use Rattle.class_tables.specs.Describes.{offset-of}
 use Rattle.class_tables.proofs.Offsets.{offset-fits}
-use Rattle.class_tables.proofs.Views.{size-is}
 use Rattle.attribute_write.specs.Lays.{laid-values, Laying}
 use Rattle.class_tables.specs.declared.Product.{Product}
 use Rattle.class_tables.proofs.ClassLaws.{stored-there}
-
--- ---- a stored attribute, and its line
-
-module _ (pr : Product) (c n : ℕ) (s : among n (stored-numbers (class-for pr c)) ≡ true) where
-  pub placed-at : {a : Attribute} → DescribedIn (class-for pr c) n a → a .at ≡ offset-of (class-for pr c) n
-  placed-at d = let z = stored-there pr c n s in d .placed (z .1) (z .0)
-
-  -- it lies within its instance's contents
-  pub lies-within : {a : Attribute} → DescribedIn (class-for pr c) n a → a .at + a .size ≤ contents-width (class-for pr c)
-  lies-within {a} d =
-      let z : offset-of (class-for pr c) n + size-of (class-for pr c) n ≤ contents-width (class-for pr c) = offset-fits (class-for pr c) n s in
-      let e : a .at ≡ offset-of (class-for pr c) n = placed-at d in
-      let g : a .size ≡ size-of (class-for pr c) n = size-is d in
-      omega arith
 
 -- ---- values cut off one after another
 
@@ -55,35 +38,40 @@ pub all-values : (k : Class) {at m : ℕ} {v b₀ b : List ℕ} {left from : ℕ
 unfolding cut laid-values
 all-values k s e = rw (none-left e) at (s .so-far)
 
--- the next attribute has this size and, being stored, this place
-module _ (k : Class) {at m : ℕ} {v b₀ b : List ℕ} {left from n place size : ℕ} (s : Values k at m v b₀ b left from) (f : First left n)
-    (placed : among n (stored-numbers k) ≡ true → place ≡ offset-of k n) (sized : size ≡ size-of k n) where
+module _ (pr : Product) (c : ℕ) {at m : ℕ} {v b₀ b : List ℕ} {left from n : ℕ} (s : Values (class-for pr c) at m v b₀ b left from) (f : First left n) where
+  abbrev k : Class
+  k = class-for pr c
+
   next-stored : among n (stored-numbers k) ≡ true
   next-stored = next-passes (s .walked) f (λ i. among i (stored-numbers k)) (s .may .are-stored)
 
-  -- the next value is there, and there is room for it
-  pub value-room : (from + size ≤ length v) × (at + place + size ≤ length b)
-  value-room =
-      let z = next-within (s .walked) f in
-      let e = placed next-stored in
-      let w = offset-fits k n next-stored in
-      let long = s .long in
-      let inside = s .may .inside in
-      let carried = s .may .carried in
-      (omega arith, omega arith)
+  pub next-kept : (supported k n ≡ true) × (is-stored (attribute k n .source) ≡ true)
+  next-kept = stored-there pr c n next-stored
 
-  pub one-value : {bit : ℕ} {b′ : List ℕ} → bit ≡ 2 ^ (16 - n) → b′ ≡ laid (at + place) (take (from + size - from) (drop from v)) b
-      → Values k at m v b₀ b′ (left - bit) (from + size)
-  unfolding cut laid-values
-  one-value {bit} {b′} e y =
-      let room = value-room in
-      let w : List ℕ = take (from + size - from) (drop from v) in
-      let cut-off : from + size - from ≡ size-of k n = omega arith in
-      let lw : length w ≤ size = simp length-take (omega arith) in
-      let q = length-laid (at + place) w b (omega arith) in
-      record {
-        walked = one-walked (s .walked) f e sized;
-        so-far = rw (y, placed next-stored, cut-off, sized, ← drop-drop (size-of k n) from v) (rw (and-the-others f e) at (s .so-far));
-        may = s .may;
-        long = ap length y ∙ q ∙ s .long;
-      }
+  -- its size, and where it begins, as the code found them
+  module _ {size begin : ℕ} (sized : size ≡ size-of k n) (begun : begin ≡ offset-of k n) where
+    -- the next value is there, and there is room for it
+    pub value-room : (from + size ≤ length v) × (at + begin + size ≤ length b)
+    value-room =
+        let z = next-within (s .walked) f in
+        let w = offset-fits k n next-stored in
+        let long = s .long in
+        let inside = s .may .inside in
+        let carried = s .may .carried in
+        (omega arith, omega arith)
+
+    pub one-value : {bit : ℕ} {b′ : List ℕ} → bit ≡ 2 ^ (16 - n) → b′ ≡ laid (at + begin) (take (from + size - from) (drop from v)) b
+        → Values k at m v b₀ b′ (left - bit) (from + size)
+    unfolding cut laid-values
+    one-value {bit} {b′} e y =
+        let room = value-room in
+        let w : List ℕ = take (from + size - from) (drop from v) in
+        let cut-off : from + size - from ≡ size-of k n = omega arith in
+        let lw : length w ≤ size = simp length-take (omega arith) in
+        let q = length-laid (at + begin) w b (omega arith) in
+        record {
+          walked = one-walked (s .walked) f e sized;
+          so-far = rw (y, begun, cut-off, sized, ← drop-drop (size-of k n) from v) (rw (and-the-others f e) at (s .so-far));
+          may = s .may;
+          long = ap length y ∙ q ∙ s .long;
+        }

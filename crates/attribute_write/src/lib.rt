@@ -1,4 +1,5 @@
 // Values laid into an instance's contents in the bytes of a table, one attribute after another.
+use attribute_tables::begins;
 use class_tables::Product;
 use class_tables::Way;
 use class_tables::classes;
@@ -25,9 +26,8 @@ pub fn lay_values(b: &mut [u8], at: usize, product: Product, class: u16, asked: 
     let mut from = 0;
     while left != 0 {
         let n = bits::first_named(left);
-        let a = attribute_tables::attribute_of(product, class, n);
         let end = from + bits::digit(sizes, n);
-        octets::copy_in(b, at + a.at, &v[from..end]);
+        octets::copy_in(b, at + begins::begin_of(product, class, n), &v[from..end]);
         from = end;
         left -= bits::bit_of(n);
     }
@@ -59,8 +59,7 @@ fn lay_first(b: &mut [u8], at: usize, product: Product, class: u16, n: u16, from
     match way {
         Way::First(x) => put_bytes(b, place, a.size, x),
         Way::Copied(m) => {
-            let s = attribute_tables::attribute_of(product, classes::leader_of(product, class), m);
-            let start = s.at;
+            let start = begins::begin_of(product, classes::leader_of(product, class), m);
             let end = start + a.size;
             octets::copy_in(b, place, &from[start..end]);
         }
