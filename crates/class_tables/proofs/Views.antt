@@ -1,6 +1,6 @@
 -- What a line says of its attribute, field by field: for the code that goes by the line.
 use Prim.Native.Nat.{ℕ}
-use mathlib.Core.Path.{_≡_, refl, _∙_, ap}
+use mathlib.Core.Path.{_≡_, refl, ap}
 use Rattle.rules.specs.Catalogue.{Class, attribute, size-of, is-stored}
 use Rattle.rules.specs.Catalogue as rules
 use Rattle.class_tables.specs.declared.Way.{Way}
@@ -32,6 +32,3 @@ module _ {k : Class} {n : ℕ} {r : Attribute} (d : DescribedIn k n r) where
   pub rule-is : rule-of (r .rule) (r .«only_if») ≡ attribute k n .rule
   unfolding meaning
   rule-is = ap (λ (a : rules.Attribute). a .rule) (d .is)
-
-  pub stored-is : is-kept (r .way) ≡ is-stored (attribute k n .source)
-  stored-is = kept-is-stored (r .size) (r .way) ∙ ap is-stored source-is
