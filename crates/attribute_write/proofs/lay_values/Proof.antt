@@ -35,19 +35,19 @@ add-end c =
 
 begin-of-requires : tie.Need-begin-of-requires Inv-loop μ-loop
 begin-of-requires c κs =
-    let first = c .before in
+    let first = c .before .before in
     next-kept _ _ (first .before .before .loop .inv) (first .first-named .ensures)
 
 add-copy-in : tie.Need-add-copy-in Inv-loop μ-loop
 add-copy-in c =
-    let at-digit = c .before in
+    let at-digit = c .before .before in
     let first = at-digit .before in
     let z = value-room _ _ (first .before .before .loop .inv) (first .first-named .ensures) (sized at-digit) (c .begin-of .ensures) in
     omega arith
 
 part-copy-in-end : tie.Need-part-copy-in-end Inv-loop μ-loop
 part-copy-in-end c =
-    let at-digit = c .before in
+    let at-digit = c .before .before in
     let first = at-digit .before in
     let z = value-room _ _ (first .before .before .loop .inv) (first .first-named .ensures) (sized at-digit) (c .begin-of .ensures) in
     omega arith
@@ -55,22 +55,22 @@ part-copy-in-end c =
 copy-in-requires : tie.Need-copy-in-requires Inv-loop μ-loop
 copy-in-requires c κs =
     let at-begin-of = c .before in
-    let at-digit = at-begin-of .before in
+    let at-digit = at-begin-of .before .before in
     let first = at-digit .before in
     let z = value-room _ _ (first .before .before .loop .inv) (first .first-named .ensures) (sized at-digit) (at-begin-of .begin-of .ensures) in
     simp (length-take, length-drop) (omega arith)
 
 sub-left : tie.Need-sub-left Inv-loop μ-loop
-sub-left c = bit-in (c .before .before .before .before .before .before .before .first-named .ensures) (c .bit-of .ensures)
+sub-left c = bit-in (c .before .before .before .before .before .before .before .before .first-named .ensures) (c .bit-of .ensures)
 
 loop-less : tie.Need-loop-less Inv-loop μ-loop
-loop-less c = fewer-left (c .before .before .before .before .before .before .before .first-named .ensures) (c .bit-of .ensures)
+loop-less c = fewer-left (c .before .before .before .before .before .before .before .before .first-named .ensures) (c .bit-of .ensures)
 
 loop-again : tie.Need-loop-again Inv-loop μ-loop
 loop-again c =
     let at-copy-in = c .before .before .before in
     let at-begin-of = at-copy-in .before .before in
-    let at-digit = at-begin-of .before in
+    let at-digit = at-begin-of .before .before in
     let first = at-digit .before in
     one-value _ _ (first .before .before .loop .inv) (first .first-named .ensures) (sized at-digit) (at-begin-of .begin-of .ensures) (c .bit-of .ensures) (at-copy-in .copy-in .ensures)
 
