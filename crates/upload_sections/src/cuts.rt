@@ -1,6 +1,7 @@
 // An instance's attributes, cut into sections: in order while they fit in 26 bytes.
 use class_tables::Product;
 use class_tables::masks;
+use class_tables::sizes;
 ghost use mathlib.Core.Path.{_≡_};
 ghost use lib.ListN.{length};
 ghost use Rattle.rules.specs.Maps.{given, nth};
@@ -22,8 +23,7 @@ pub fn first_section(product: Product, class: u16, remaining: u16) -> u16
     let mut used = 0;
     while bits::how_many(left) != 0 {
         let n = bits::first_named(left);
-        let a = attribute_tables::attribute_of(product, class, n);
-        used += a.size;
+        used += bits::digit(sizes::sizes(product, class), n);
         if ROOM < used {
             return remaining - left;
         }
