@@ -11,9 +11,15 @@
 //! speed --count KIND ENGINE     one run behind a call of `counting_begins`
 //! speed --count-tested KIND ENGINE
 //!                               the same with one more soundness test in front of each call
+//! speed --count-find PLACES:WHICH ENGINE
+//!                               one search behind the mark, in a table of so many places, for the
+//!                               first, the middle, the last or an absent instance
+//! speed --count-find-tested PLACES:WHICH ENGINE
+//!                               the same with one more soundness test in front of it
 //! ```
 
 mod engines;
+mod finding;
 mod kinds;
 mod painted;
 mod rounds;
@@ -24,14 +30,16 @@ use std::collections::BTreeMap;
 use std::process::ExitCode;
 
 use engines::{Call, Engine};
+use finding::Search;
 use kinds::Kind;
 use painted::Depth;
 use rounds::{Effort, Ratio};
 use states::State;
 use subject::Subject;
 
-const USAGE: &str =
-    "usage: speed [--quick | --stack | --kinds | --count KIND ENGINE | --count-tested KIND ENGINE]";
+const USAGE: &str = "usage: speed [--quick | --stack | --kinds | --count KIND ENGINE \
+    | --count-tested KIND ENGINE | --count-find PLACES:WHICH ENGINE \
+    | --count-find-tested PLACES:WHICH ENGINE]";
 
 const WHOLE: Effort = Effort { rounds: 101, turns: 12 };
 const QUICK: Effort = Effort { rounds: 1, turns: 1 };
@@ -48,6 +56,8 @@ fn main() -> ExitCode {
             subject.run(kind);
         }),
         ["--count-tested", kind, engine] => count(kind, engine, Subject::run_tested),
+        ["--count-find", search, engine] => count_find(search, engine, false),
+        ["--count-find-tested", search, engine] => count_find(search, engine, true),
         _ => Err(USAGE.into()),
     };
     match done {
@@ -117,13 +127,19 @@ fn list() -> Result<(), String> {
 fn count(kind: &str, engine: &str, run: fn(&mut Subject, &Kind)) -> Result<(), String> {
     let kinds = kinds::all();
     let kind: &Kind = kinds.iter().find(|one| one.name == kind).ok_or("no such kind")?;
-    let engine =
-        Engine::ALL.into_iter().find(|one| one.name() == engine).ok_or("no such engine")?;
-    let mut subject = Subject::new(engine)?;
+    let mut subject = Subject::new(engine_named(engine)?)?;
     subject.prepare(kind);
     counting_begins();
     run(&mut subject, kind);
     subject.check_done(kind)
+}
+
+fn count_find(search: &str, engine: &str, tested: bool) -> Result<(), String> {
+    Search::named(search)?.count(engine_named(engine)?, tested, || counting_begins())
+}
+
+fn engine_named(name: &str) -> Result<Engine, String> {
+    Engine::ALL.into_iter().find(|one| one.name() == name).ok_or("no such engine".into())
 }
 
 /// A mark for whoever counts instructions: what came before is preparation.

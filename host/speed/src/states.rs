@@ -7,7 +7,7 @@ use crate::engines::{message, report, Call};
 // The products that are measured, by the numbers that power-on takes. A Meter,
 // which has the least to test and to show, isn't.
 const SMALL: u8 = 1;
-const LARGE: u8 = 2;
+pub const LARGE: u8 = 2;
 
 pub const UNIS: u16 = 4;
 pub const BRIDGES: u16 = 12;
@@ -22,7 +22,7 @@ const fn uni(index: u16) -> u16 {
     0x0101 + index
 }
 
-const fn bridge(index: u16) -> u16 {
+pub const fn bridge(index: u16) -> u16 {
     0x0100 + 7 * index
 }
 
