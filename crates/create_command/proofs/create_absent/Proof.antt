@@ -79,9 +79,12 @@ put-in-requires c κs =
     let f = p .before .before .before .before .before in
     let a = f .args in
     let room = c .before .before .before .in-use .ensures in
-    let left = c .before .before .if2 .left in
-    (live-shaped (a .product) (a .store .now) (f .pre .0), omega arith, rank-small (key (a .class) (a .number)) (part live-at block-length (a .store .now)) (f .pre .5),
-    ap length (p .new-place .ensures) ∙ place-has-its-length _)
+    let left = c .before .before .if2 .left in (
+      live-shaped (a .product) (a .store .now) (f .pre .0),
+      omega arith,
+      rank-small (key (a .class) (a .number)) (part live-at block-length (a .store .now)) (f .pre .5),
+      ap length (p .new-place .ensures) ∙ place-has-its-length _,
+    )
 
 returns-3 : tie.Need-returns-3
 returns-3 c =

@@ -1,4 +1,3 @@
-use native.Mathlib.Omega.{arith}
 use mathlib.Core.Path.{refl, sym, _∙_}
 use Rattle.table.proofs.Ranks.{last-passed, one-passed, not-placed}
 use borrow.Author.Needs.{needs}
