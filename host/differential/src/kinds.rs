@@ -3,6 +3,7 @@
 
 mod damage;
 mod examples;
+mod finding;
 mod meter;
 mod orders;
 mod rebuild;
@@ -28,7 +29,7 @@ pub struct Kind {
 }
 
 /// All kinds, in the order in which they are run.
-pub const ALL: [Kind; 19] = [
+pub const ALL: [Kind; 20] = [
     Kind { name: "examples", test: examples::test },
     Kind { name: "meter", test: meter::test },
     Kind { name: "set-failures", test: set_failures::test },
@@ -42,6 +43,7 @@ pub const ALL: [Kind; 19] = [
     Kind { name: "contents", test: sweeps::contents },
     Kind { name: "reports", test: sweeps::reports },
     Kind { name: "full-tables", test: sweeps::full_tables },
+    Kind { name: "finding", test: finding::test },
     Kind { name: "random-runs", test: runs::test },
     Kind { name: "orders", test: orders::test },
     Kind { name: "flipped-stores", test: damage::flipped },
