@@ -1,4 +1,4 @@
-// What the engine knows of a class, as tables: the products' catalogues as code. Beside it `attribute_tables` has a line for each attribute, and
+// What the engine knows of a class, as tables: the products' catalogues as code. Beside it `attribute_tables` has what is known of each attribute, and
 // `class_tests`, `slot_tests` and `place_runs` test a whole store's contents; no other crate has a branch for a class or a product.
 pub mod built;
 pub mod classes;

@@ -15,12 +15,12 @@ use Rattle.rules.specs.Masks.{total}
 use Rattle.rules.specs.State.{Contents, content, overwrite, class-of, number-of}
 use Rattle.rules.proofs.ByteLaws.{keys-cut}
 use Rattle.rules.proofs.Families.{numbered}
-use Rattle.rules.proofs.Laws.{true-false, both, eqb-true, eqb-false}
+use Rattle.rules.proofs.Laws.{true-false, both, eqb-true, eqb-false, among-here}
 use Rattle.rules.proofs.MapLaws.{Up, up-weaken, rising-up}
 use Rattle.rules.proofs.Lookups.{leads-itself}
 use Rattle.octets.proofs.Laid.{filled}
 use Rattle.octets.proofs.Parted.{part-behind, part-filled, part}
-use Rattle.legality.proofs.Carried.{C-in-carried}
+use Rattle.legality.proofs.Carried.{C-in-carried, carried-is-C}
 use Rattle.legality.proofs.Contents.{content-over}
 use Rattle.legality.proofs.NewContents.{C-is-created, content-of-new}
 use Rattle.store.specs.Layout.{place-width, entry-bytes, contents-bytes, contents-width, place, key-length}
@@ -30,7 +30,7 @@ use Rattle.class_tables.specs.Built.{class-for, cat-of}
 use Rattle.class_tables.specs.Describes.{offset-of}
 use Rattle.class_tables.specs.Families.{Companion}
 use Rattle.class_tables.specs.declared.Product.{Product}
-use Rattle.class_tables.proofs.ClassLaws.{inside-fits, leader-in-front, companion-follows, companion-not-created, companion-led, family-led, stored-there}
+use Rattle.class_tables.proofs.ClassLaws.{inside-fits, leader-in-front, companion-follows, companion-not-created, companion-led, family-led, stored-there, attributes-rising}
 use Rattle.class_tables.proofs.EveryProduct.{well-formed-of}
 use Rattle.class_tables.proofs.Facts.{contents-fit, carried-fit, carried-stored, all-carried}
 use Rattle.class_tables.proofs.Offsets.{offset-fits}
@@ -40,7 +40,7 @@ use Rattle.attribute_write.proofs.Overwritten.{Sized, cut-is-sized, length-laid
 use Rattle.attribute_write.proofs.Overwritten.{Whole, cut-is-whole, begins-with-its-cut, whole-length, whole-overwritten, shown-in-whole, laid-over-whole}
 use Rattle.create_command.specs.New.{with-companion, with-carried, with-others, other-numbers}
 use Rattle.create_command.proofs.NewContents.{ShowsCarried, new-is-whole, new-is-laid}
-use Rattle.create_command.proofs.Others.{C-stored, stored-rise, carried-rise}
+use Rattle.create_command.proofs.Others.{C-stored, stored-rise, carried-rise, other-is}
 
 -- as the code lays it, and as it is to be
 abbrev pub made : Product → ℕ → ℕ → List ℕ → List ℕ
@@ -195,6 +195,20 @@ module _ (pr : Product) (c : ℕ) (cr : is-created (class-for pr c .creation) �
 
   blank-length : length blank ≡ place-width
   blank-length = length-replicate {A = ℕ} place-width 0
+
+  -- nothing else is stored
+  no-others : other-numbers k ≡ []
+  no-others = none (other-numbers k) refl
+    where
+      none : (l : List ℕ) → other-numbers k ≡ l → l ≡ []
+      none [] e = refl
+      none (n ∷ l) e =
+          let o = other-is pr c n (rw e (among-here n l)) in
+          true-false (carried-is-C k (attributes-rising pr c) n (rw (all-carried pr c cr) (o .0))) (o .1)
+
+  pub nothing-beside : (from b : List ℕ) → with-others pr c from b ≡ b
+  unfolding with-others laid-values firsts
+  nothing-beside from b = rw no-others refl
 
   -- the carried bytes stand as they come: they are all that is stored
   pub carried-stands : with-carried pr c v ≡ laid 0 (take (total (size-of k) (carried-numbers k)) v) blank

@@ -29,7 +29,7 @@ use Rattle.table.proofs.Located.{how-many-keys}
 use Rattle.table.proofs.TableMoved.{rank-fits}
 use Rattle.attribute_write.specs.Lays.{laid-values, firsts, leading-class, LayingFirsts}
 use Rattle.create_command.specs.New.{other-numbers, with-others, with-carried, with-companion, with-place}
-use Rattle.create_command.proofs.NewEntry.{expected, is-made, carried-fills, carried-stands}
+use Rattle.create_command.proofs.NewEntry.{expected, is-made, carried-fills, carried-stands, nothing-beside}
 use Rattle.create_command.proofs.Others.{carried-named, others-named, may-lay}
 
 -- ---- the first contents that no Create carries
@@ -69,24 +69,24 @@ module _ (pr : Product) (c : ℕ) (v : List ℕ) (long : length v ≡ 32) where
     pub carried-long : length own ≡ place-width
     carried-long = ap length carried-laid ∙ carried-fills pr c cr v long
 
-    module _ {c₀ c₁ c₂ : List ℕ} (d : ℕ) (z : c₀ ≡ replicate place-width 0) (first : c₁ ≡ laid 0 own c₀) (second : c₂ ≡ with-others pr c own c₁) (q : Companion pr c d) where
+    module _ {c₀ c₁ : List ℕ} (d : ℕ) (z : c₀ ≡ replicate place-width 0) (first : c₁ ≡ laid 0 own c₀) (q : Companion pr c d) where
       copied-whole : c₁ ≡ own
       copied-whole = first ∙ laid-all own c₀ (carried-long ∙ sym (ap length z))
 
-      so-far : c₂ ≡ with-others pr c (with-carried pr c v) (with-carried pr c v)
-      so-far = second ∙ (λ i. with-others pr c (carried-laid i) ((copied-whole ∙ carried-laid) i))
+      so-far : c₁ ≡ with-others pr c (with-carried pr c v) (with-carried pr c v)
+      so-far = copied-whole ∙ carried-laid ∙ sym (nothing-beside pr c cr v long (with-carried pr c v) (with-carried pr c v))
 
-      with-all : with-companion pr d own c₂ ≡ expected pr c v
+      with-all : with-companion pr d own c₁ ≡ expected pr c v
       with-all = (λ i. with-companion pr d (carried-laid i) (so-far i)) ∙ is-made pr c cr v long d q
 
-      pub made-alone : d ≡ 0 → c₂ ≡ expected pr c v
-      made-alone e = sym (ap (λ (x : ℕ). with-companion pr x own c₂) e) ∙ with-all
+      pub made-alone : d ≡ 0 → c₁ ≡ expected pr c v
+      made-alone e = sym (ap (λ (x : ℕ). with-companion pr x own c₁) e) ∙ with-all
 
-      one-more : (x : ℕ) → x ≢ 0 → with-others pr x own c₂ ≡ with-companion pr x own c₂
+      one-more : (x : ℕ) → x ≢ 0 → with-others pr x own c₁ ≡ with-companion pr x own c₁
       one-more zero n = absurd (n refl)
       one-more (suc x) n = refl
 
-      pub made-with : d ≢ 0 → {c₃ : List ℕ} → c₃ ≡ with-others pr d own c₂ → c₃ ≡ expected pr c v
+      pub made-with : d ≢ 0 → {c₂ : List ℕ} → c₂ ≡ with-others pr d own c₁ → c₂ ≡ expected pr c v
       made-with n g = g ∙ one-more d n ∙ with-all
 
 -- ---- a new place

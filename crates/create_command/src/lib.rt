@@ -50,7 +50,7 @@ fn lay_others(c: &mut [u8], product: Product, class: u16, own: &[u8])
 }
 
 // Writes the contents of a new instance and of those that come with it. What a Create carries is all that its class stores, in the same
-// order, so that the bytes stand as they come.
+// order, so that the bytes stand as they come and nothing else is laid beside them.
 fn new_contents(c: &mut [u8], product: Product, class: u16, v: &[u8])
     requires { ⌜ (now c ≡ replicate place-width 0) × (is-created (class-for product class .creation) ≡ true) × (length (now v) ≡ 32) ⌝ }
     ensures { λ _. ⌜ now (c .exit) ≡ fill place-width (entry-bytes (new-entry (cat-of product) class (carried-by (class-for product class) (now (v .entry))))) ⌝ }
@@ -59,7 +59,6 @@ fn new_contents(c: &mut [u8], product: Product, class: u16, v: &[u8])
     let size = sizes::carried_size(product, class);
     octets::copy_in(&mut own, 0, &v[0..size]);
     octets::copy_in(c, 0, &own);
-    lay_others(c, product, class, &own);
     let companion = classes::companion_of(product, class);
     if companion != 0 {
         lay_others(c, product, companion, &own);

@@ -23,7 +23,7 @@ use Rattle.table.proofs.Located.{how-many-keys}
 -- ---- in a list that rises
 
 -- a key that isn't greater is passed, with all before it
-pub ranked-past : (b k j : ℕ) (l : List ℕ) → Up b l → j < length l → getD l j 0 ≤ k → j < rank k l
+ranked-past : (b k j : ℕ) (l : List ℕ) → Up b l → j < length l → getD l j 0 ≤ k → j < rank k l
 unfolding rank
 ranked-past b k j [] u h g = absurd (omega arith)
 ranked-past b k zero (x ∷ l) u h g = rw (le-ltb k x g) (omega arith)
@@ -33,7 +33,7 @@ ranked-past b k (suc j) (x ∷ l) u h g =
     rw (le-ltb k x (omega arith)) (omega arith)
 
 -- a greater one isn't, nor is any behind it
-pub ranked-short : (k j : ℕ) (l : List ℕ) → j < length l → k < getD l j 0 → rank k l ≤ j
+ranked-short : (k j : ℕ) (l : List ℕ) → j < length l → k < getD l j 0 → rank k l ≤ j
 unfolding rank
 ranked-short k j [] h g = absurd (omega arith)
 ranked-short k zero (x ∷ l) h g = rw (lt-ltb k x g) (omega arith)
@@ -42,7 +42,7 @@ ranked-short k (suc j) (x ∷ l) h g =
     cases (ltb k x) (λ t. rw t (omega arith)) (λ t. rw t (omega arith))
 
 -- what has a place is the last that is passed
-pub ranked-behind : (b k j : ℕ) (l : List ℕ) → Up b l → position k l ≡ some j → rank k l ≡ suc j
+ranked-behind : (b k j : ℕ) (l : List ℕ) → Up b l → position k l ≡ some j → rank k l ≡ suc j
 unfolding rank position
 ranked-behind b k j [] u p = none-some p
 ranked-behind b k j (x ∷ l) u p = cases (eqb k x)
@@ -81,20 +81,20 @@ module _ (b : List ℕ) (s : InShape b) (k : ℕ) where
         let there = key-there b (low + by - 1) (omega arith) in
         let z = ranked-past 0 k (low + by - 1) l up (omega arith) (omega arith) in
         let y = r .near in
-        record { past = omega arith; near = omega arith }
+        record { from-low = omega arith; near = omega arith }
 
     pub stopped-short : low + by ≤ n → k < key-of b (low + by - 1) → Ranked low by k l
     stopped-short h g =
         let few = how-many-keys b in
         let there = key-there b (low + by - 1) (omega arith) in
         let z = ranked-short k (low + by - 1) l (omega arith) (omega arith) in
-        record { past = r .past; near = omega arith }
+        record { from-low = r .from-low; near = omega arith }
 
     pub at-the-end : n < low + by → Ranked low by k l
     at-the-end h =
         let few = how-many-keys b in
         let z = rank-fits k l in
-        record { past = r .past; near = omega arith }
+        record { from-low = r .from-low; near = omega arith }
 
   -- the key's place, told by its rank
   module _ {j : ℕ} (e : j ≡ rank k l) where

@@ -1,4 +1,4 @@
--- The loops over the places in use: what one turn shows of the answer, and what the end shows.
+-- The places in use, one after another: the key of each, and the loop that counts those that hold a number.
 use Prim.Native.Nat.{ℕ, zero, suc, _+_, _-_, _≤_, _<_}
 use native.Mathlib.Nat.{add-assoc, add-zero}
 use native.Mathlib.Omega.{arith}
@@ -25,22 +25,18 @@ pub two-take : (n : ℕ) (b : List ℕ) (k : ℕ) → k + 1 < n → two (take n 
 two-take n b k h = rw (getD-take n b k 0 (omega arith), getD-take n b (k + 1) 0 h)
 
 -- the keys from the i-th of n places on
-abbrev pub keys-from : List ℕ → ℕ → ℕ → List ℕ
+abbrev keys-from : List ℕ → ℕ → ℕ → List ℕ
 keys-from b n i = place-keys (n - i) (drop (place-at i) b)
 
 -- the key of the i-th place
 abbrev pub key-of : List ℕ → ℕ → ℕ
 key-of b i = key (two b (place-at i)) (two b (place-at i + 2))
 
-pub keys-start : (b : List ℕ) (n : ℕ) → n ≡ byte b in-use-at → keys-from b n 0 ≡ keys-in b
+keys-start : (b : List ℕ) (n : ℕ) → n ≡ byte b in-use-at → keys-from b n 0 ≡ keys-in b
 keys-start b n h = let e : n - 0 ≡ byte b in-use-at = omega arith in rw e
 
 module _ (b : List ℕ) (n i : ℕ) where
-  pub keys-end : n ≤ i → keys-from b n i ≡ []
-  unfolding place-keys
-  keys-end h = let e : n - i ≡ 0 = omega arith in rw e
-
-  pub keys-next : i < n → keys-from b n i ≡ key-of b i ∷ keys-from b n (i + 1)
+  keys-next : i < n → keys-from b n i ≡ key-of b i ∷ keys-from b n (i + 1)
   unfolding place-keys
   keys-next h =
       let e : n - i ≡ suc (n - (i + 1)) = omega arith in

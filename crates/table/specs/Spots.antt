@@ -17,9 +17,9 @@ unfoldable pub rank : ℕ → List ℕ → ℕ
 rank k [] = 0
 rank k (x ∷ l) = cond (ltb k x) 0 (suc (rank k l))
 
--- so far as is known: the rank of k is low or up to by - 1 more
+-- the rank of k is low or up to by - 1 more
 pub record Ranked (low by k : ℕ) (l : List ℕ) : Type 0 where
-  pub past : low ≤ rank k l
+  pub from-low : low ≤ rank k l
   pub near : rank k l < low + by
 
 abbrev pub at-position : (ℕ → ℕ) → Option ℕ → Option ℕ

@@ -34,7 +34,8 @@ pub fn in_use(b: &[u8]) -> usize
     octets::wide(b[IN_USE]) as usize
 }
 
-// Of a key whose rank is `low` or up to `by + by - 1` more: a lower bound that leaves half as many. One look at a key tells which half.
+// Halves what is open: of a key whose rank is `low` or up to `by + by - 1` more, a bound from which the rank is at most `by - 1` more. The key of the last
+// of the next `by` places tells; where there aren't as many places, nothing needs to be looked at.
 fn past(b: &[u8], n: usize, low: usize, by: usize, key: u32) -> usize
     requires { ⌜ InShape (now b) × (n ≡ byte (now b) in-use-at) × (1 ≤ by) × (by ≤ place-count) × Ranked low (by + by) key (keys-in (now b)) ⌝ }
     ensures { λ r. ⌜ Ranked r by key (keys-in (now (b .entry))) ⌝ }
@@ -48,8 +49,8 @@ fn past(b: &[u8], n: usize, low: usize, by: usize, key: u32) -> usize
     low
 }
 
-// How many places, whose keys rise, come before a key or have it: where an instance of this key is put in. The search halves in six
-// looks, which is as many as 40 places need: without a loop each is a few instructions (docs/SPEED.md).
+// How many places, whose keys rise, have a key that isn't greater: where an instance of this key is put in. The search halves, in at most six looks
+// at a key, which is enough for 63 places; without a loop it takes fewer instructions (docs/SPEED.md, "Finding an instance").
 pub fn rank_of(b: &[u8], key: u32) -> usize
     requires { ⌜ InShape (now b) ⌝ }
     ensures { λ r. ⌜ r ≡ rank key (keys-in (now (b .entry))) ⌝ }
@@ -63,7 +64,7 @@ pub fn rank_of(b: &[u8], key: u32) -> usize
     past(b, n, to_2, 1, key)
 }
 
-// Has a place this key, whose rank is j? It would be the last of those that come before the rank.
+// Has a place this key, whose rank is j? If one has, it is the last of the j places whose keys aren't greater.
 pub fn has_key(b: &[u8], key: u32, j: usize) -> bool
     requires { ⌜ InShape (now b) × (j ≡ rank key (keys-in (now b))) ⌝ }
     ensures { λ r. ⌜ r ≡ is-some (position key (keys-in (now (b .entry)))) ⌝ }

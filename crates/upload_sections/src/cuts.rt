@@ -15,7 +15,7 @@ ghost use Rattle.class_tables.specs.declared.Product.{Product};
 // How many bytes of contents a section shows.
 const ROOM: usize = 26;
 
-// The first section of the attributes that remain.
+// The first section of the attributes that remain. The compiler asks for the class's sizes once, before the loop.
 pub fn first_section(product: Product, class: u16, remaining: u16) -> u16
     ensures { λ r. ⌜ r ≡ mask (first-cut (size-of (class-for product class)) 0 (named remaining)) ⌝ }
 {

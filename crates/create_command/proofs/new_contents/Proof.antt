@@ -44,14 +44,7 @@ copy-in-requires-2 c κs =
 
 lay-others-requires : tie.Need-lay-others-requires
 lay-others-requires c κs =
-    let l = c .before .before .before .before .before .before .before .before in
-    let f = l .before .before .before .before .before .before in
-    let m : length (f .args .c .now) ≡ place-width = ap length (f .pre .0) in
-    (search needs, own-long l)
-
-lay-others-requires-2 : tie.Need-lay-others-requires-2
-lay-others-requires-2 c κs =
-    let l = c .before .before .before .before .before .before .before .before .before .before .before .before .before .before .before in
+    let l = c .before .before .before .before .before .before .before .before .before .before in
     let f = l .before .before .before .before .before .before in
     let m : length (f .args .c .now) ≡ place-width = ap length (f .pre .0) in
     (search needs, own-long l)
@@ -59,21 +52,20 @@ lay-others-requires-2 c κs =
 returns : tie.Need-returns
 returns c =
     let o = c .before .before .before .before .before .before in
-    let l = o .before .before .before .before .before .before .before .before .before .before .before .before in
+    let l = o .before .before .before .before .before .before .before in
     let f = l .before .before .before .before .before .before in
     let a = f .args in
     made-with (a .product) (a .class) (a .v .now) (f .pre .2) (f .pre .1) (l .before .before .before .carried-size .ensures) (l .copy-in .ensures) (o .companion-of .result)
-    (f .pre .0) (o .before .before .before .before .before .before .before .before .copy-in2 .ensures) (o .before .before .before .lay-others .ensures) (o .companion-of .ensures)
-    (c .before .before .before .before .before .if1 .taken) (c .before .before .lay-others2 .ensures)
+    (f .pre .0) (o .before .before .before .copy-in2 .ensures) (o .companion-of .ensures) (c .before .before .before .before .before .if1 .taken) (c .before .before .lay-others .ensures)
 
 returns-2 : tie.Need-returns-2
 returns-2 c =
     let o = c .before in
-    let l = o .before .before .before .before .before .before .before .before .before .before .before .before in
+    let l = o .before .before .before .before .before .before .before in
     let f = l .before .before .before .before .before .before in
     let a = f .args in
     made-alone (a .product) (a .class) (a .v .now) (f .pre .2) (f .pre .1) (l .before .before .before .carried-size .ensures) (l .copy-in .ensures) (o .companion-of .result)
-    (f .pre .0) (o .before .before .before .before .before .before .before .before .copy-in2 .ensures) (o .before .before .before .lay-others .ensures) (o .companion-of .ensures) (c .if1 .left)
+    (f .pre .0) (o .before .before .before .copy-in2 .ensures) (o .companion-of .ensures) (c .if1 .left)
 
 pub new-contents-spec : {M : Type 1} → statement M
 new-contents-spec =
@@ -87,11 +79,9 @@ new-contents-spec =
     copy-in-requires
     (λ c. search needs)
     copy-in-requires-2
-    (λ c. search needs)
-    lay-others-requires
     (λ c κs. search needs)
     (λ c. search needs)
-    lay-others-requires-2
+    lay-others-requires
     (λ c. search needs)
     returns
     (λ c. search needs)

@@ -11,7 +11,7 @@ add-next : tie.Need-add-next
 add-next c =
     let f = c .before in
     let z = few-passed (f .args .b .now) (f .pre .0) (f .args .key) in
-    let y = f .pre .4 .past in
+    let y = f .pre .4 .from-low in
     omega arith
 
 returns : tie.Need-returns

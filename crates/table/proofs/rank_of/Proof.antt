@@ -13,7 +13,7 @@ past-requires : tie.Need-past-requires
 past-requires c κs =
     let f = c .before .before in
     let z = few-passed (f .args .b .now) (f .pre) (f .args .key) in
-    (f .pre, c .in-use .ensures, omega arith, omega arith, record { past = omega arith; near = omega arith })
+    (f .pre, c .in-use .ensures, omega arith, omega arith, record { from-low = omega arith; near = omega arith })
 
 pub rank-of-spec : {M : Type 1} → statement M
 rank-of-spec =
