@@ -1,6 +1,7 @@
 //! Finding an instance: a Get that asks for nothing, of a bridge in tables of
 //! several sizes. It is refused behind the search: with 3 where the bridge is
-//! there, with 5 where it isn't.
+//! there, with 5 where it isn't. So Gets in tables of different sizes differ by
+//! the search alone.
 
 use exchange::{Maker, GET};
 
@@ -18,7 +19,8 @@ pub struct Search {
 }
 
 impl Search {
-    /// PLACES:WHICH, such as 20:middle. The absent one would stand in the middle.
+    /// PLACES:WHICH, such as 20:middle. The absent one would stand right behind
+    /// the middle one.
     pub fn named(words: &str) -> Result<Search, String> {
         let wrong = || format!("{words}: not PLACES:first, :middle, :last or :absent");
         let (places, which) = words.split_once(':').ok_or_else(wrong)?;
@@ -38,7 +40,7 @@ impl Search {
 
     /// Makes the search behind a mark, and one more soundness test in front of
     /// it if `tested`.
-    pub fn count(&self, engine: Engine, tested: bool, mark: fn()) -> Result<(), String> {
+    pub fn run(&self, engine: Engine, tested: bool, mark: fn()) -> Result<(), String> {
         let mut maker = Maker::new(0x1000);
         let mut stores = vec![vec![0; engine.store_size()]];
         let creates: Vec<Call> =

@@ -135,7 +135,7 @@ fn count(kind: &str, engine: &str, run: fn(&mut Subject, &Kind)) -> Result<(), S
 }
 
 fn count_find(search: &str, engine: &str, tested: bool) -> Result<(), String> {
-    Search::named(search)?.count(engine_named(engine)?, tested, || counting_begins())
+    Search::named(search)?.run(engine_named(engine)?, tested, || counting_begins())
 }
 
 fn engine_named(name: &str) -> Result<Engine, String> {
