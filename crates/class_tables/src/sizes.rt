@@ -9,6 +9,7 @@ ghost use Rattle.class_tables.specs.Built.{class-for};
 ghost use Rattle.class_tables.specs.Sizes.{size-digits};
 
 // The sizes of a class's attributes, a hexadecimal digit each: attribute 1's is the top one of sixteen.
+// A digit holds at most 15, so no attribute may have more bytes (the rules allow 25): the checker refuses a table in which one has.
 pub fn sizes(product: Product, class: u16) -> u64
     ensures { λ r. ⌜ r ≡ size-digits (class-for product class) ⌝ }
 {
