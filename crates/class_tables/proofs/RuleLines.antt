@@ -74,40 +74,43 @@ module _ (p : Attribute → Bool) (h : p absent-line ≡ true) where
       (λ u. true-false u (avoided c l a))
       (λ u. every-find (λ i a. p a) m u n b f)))))
 
--- a rule that isn't listed is Any, and an attribute that isn't is always judged
-module _ (l : List ℕ) (x : ℕ) (a : Avoids x l) where
-  pub any-otherwise : (m : Map Attribute) → every (λ n a. among n l or is-any (a .rule)) m ≡ true → Any ≡ line-in m x .rule
-  any-otherwise m g = sym (any-rule (line-in m x .rule) (other-line (λ a. is-any (a .rule)) refl m l x a g))
+-- ---- one of the two that a content is judged by, and the value of it that a match leaves to its last arm
 
-  pub always-otherwise : (m : Map Attribute) → every (λ n a. among n l or eqb (a .«only_if») 0) m ≡ true → 0 ≡ line-in m x .«only_if»
-  always-otherwise m g = sym (eqb-eq (line-in m x .«only_if») 0 (other-line (λ a. eqb (a .«only_if») 0) refl m l x a g))
+pub record Part (A : Type 0) : Type 0 where
+  pub part : Rule × ℕ → A
+  pub rest : A
+  pub is-rest : A → Bool
+  pub rest-if : (x : A) → is-rest x ≡ true → x ≡ rest
+  pub absent-is-rest : is-rest (part (judged-by absent-line)) ≡ true
 
--- ---- from a class of Large to every product
+-- most contents have any rule, and are always judged
+abbrev pub its-rule : Part Rule
+its-rule = record { part = λ j. j .0; rest = Any; is-rest = is-any; rest-if = any-rule; absent-is-rest = refl }
 
-module _ (pr : Product) (x n : ℕ) (s : supported (class-for pr x) n ≡ true) where
-  same-rule : line-for Large x n .rule ≡ line-for pr x n .rule
-  same-rule = ap (λ (y : Rule × ℕ). y .0) (sym (same-judged pr x n s))
+abbrev pub its-condition : Part ℕ
+its-condition = record { part = λ j. j .1; rest = 0; is-rest = λ x. eqb x 0; rest-if = λ x. eqb-eq x 0; absent-is-rest = refl }
 
-  same-condition : line-for Large x n .«only_if» ≡ line-for pr x n .«only_if»
-  same-condition = ap (λ (y : Rule × ℕ). y .1) (sym (same-judged pr x n s))
+module _ {A : Type 0} (p : Part A) where
+  abbrev part-of : Attribute → A
+  part-of a = p .part (judged-by a)
 
-  module _ (c : ℕ) (e : x ≡ c) (m : Map Attribute) (is : lines-in large-lines c ≡ m) where
-    large-line : line-in m n ≡ line-for Large x n
+  abbrev has-rest : Attribute → Bool
+  has-rest a = p .is-rest (part-of a)
+
+  -- an attribute that isn't listed
+  pub rest-otherwise : (l : List ℕ) (x : ℕ) → Avoids x l → (m : Map Attribute) → every (λ n a. among n l or has-rest a) m ≡ true → p .rest ≡ part-of (line-in m x)
+  rest-otherwise l x a m g = sym (p .rest-if (part-of (line-in m x)) (other-line has-rest (p .absent-is-rest) m l x a g))
+
+  -- from a class of Large to every product
+  module _ (pr : Product) (x n : ℕ) (s : supported (class-for pr x) n ≡ true) where
+    same-part : part-of (line-for Large x n) ≡ part-of (line-for pr x n)
+    same-part = ap (p .part) (sym (same-judged pr x n s))
+
+    pub part-in : (c : ℕ) → x ≡ c → (m : Map Attribute) → lines-in large-lines c ≡ m → {r : A} → r ≡ part-of (line-in m n) → r ≡ part-of (line-for pr x n)
     unfolding line-for lines-of
-    large-line = of-class large-lines c n e refl is
+    part-in c e m is h = h ∙ ap part-of (of-class large-lines c n e refl is) ∙ same-part
 
-    pub rule-in : {r : Rule} → r ≡ line-in m n .rule → r ≡ line-for pr x n .rule
-    rule-in h = h ∙ ap (λ (a : Attribute). a .rule) large-line ∙ same-rule
-
-    pub condition-in : {r : ℕ} → r ≡ line-in m n .«only_if» → r ≡ line-for pr x n .«only_if»
-    condition-in h = h ∙ ap (λ (a : Attribute). a .«only_if») large-line ∙ same-condition
-
-  -- a class that isn't listed
-  module _ (l : List ℕ) (a : Avoids x l) where
-    pub any-elsewhere : every (λ d m. among d l or every (λ i a. is-any (a .rule)) m) large-lines ≡ true → Any ≡ line-for pr x n .rule
+    -- a class that isn't listed
+    pub rest-elsewhere : (l : List ℕ) → Avoids x l → every (λ d m. among d l or every (λ i a. has-rest a) m) large-lines ≡ true → p .rest ≡ part-of (line-for pr x n)
     unfolding line-for lines-of
-    any-elsewhere g = sym (any-rule (line-for Large x n .rule) (other-class (λ a. is-any (a .rule)) refl large-lines l x n a g)) ∙ same-rule
-
-    pub always-elsewhere : every (λ d m. among d l or every (λ i a. eqb (a .«only_if») 0) m) large-lines ≡ true → 0 ≡ line-for pr x n .«only_if»
-    unfolding line-for lines-of
-    always-elsewhere g = sym (eqb-eq (line-for Large x n .«only_if») 0 (other-class (λ a. eqb (a .«only_if») 0) refl large-lines l x n a g)) ∙ same-condition
+    rest-elsewhere l a g = sym (p .rest-if (part-of (line-for Large x n)) (other-class has-rest (p .absent-is-rest) large-lines l x n a g)) ∙ same-part

@@ -1,7 +1,7 @@
 use mathlib.Core.Path.{refl}
 use mathlib.Core.List.{[], _∷_}
 use Rattle.class_tables.specs.Lines.{profile-lines, computing-lines}
-use Rattle.class_tables.proofs.RuleLines.{any-otherwise}
+use Rattle.class_tables.proofs.RuleLines.{its-rule, rest-otherwise}
 use Rattle.attribute_tables.proofs.content_rules.profile_rule.Statement.{statement}
 use Rattle.attribute_tables.proofs.content_rules.profile_rule.Tie as tie
 
@@ -24,7 +24,7 @@ returns-6 : tie.Need-returns-6
 returns-6 c = rw (c .match .keys6) (unfold computing-lines in refl)
 
 returns-7 : tie.Need-returns-7
-returns-7 c = any-otherwise (7 ∷ 6 ∷ 5 ∷ 3 ∷ 2 ∷ 1 ∷ []) _ (c .match .rest) profile-lines (unfold computing-lines in refl)
+returns-7 c = rest-otherwise its-rule (7 ∷ 6 ∷ 5 ∷ 3 ∷ 2 ∷ 1 ∷ []) _ (c .match .rest) profile-lines (unfold computing-lines in refl)
 
 pub profile-rule-spec : {M : Type 1} → statement M
 profile-rule-spec = tie.close (tie.spec returns returns-2 returns-3 returns-4 returns-5 returns-6 returns-7)

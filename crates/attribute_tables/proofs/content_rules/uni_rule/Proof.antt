@@ -1,7 +1,7 @@
 use mathlib.Core.Path.{refl}
 use mathlib.Core.List.{[], _∷_}
 use Rattle.class_tables.specs.Lines.{large-uni-lines, computing-lines}
-use Rattle.class_tables.proofs.RuleLines.{any-otherwise}
+use Rattle.class_tables.proofs.RuleLines.{its-rule, rest-otherwise}
 use Rattle.attribute_tables.proofs.content_rules.uni_rule.Statement.{statement}
 use Rattle.attribute_tables.proofs.content_rules.uni_rule.Tie as tie
 
@@ -24,7 +24,7 @@ returns-6 : tie.Need-returns-6
 returns-6 c = rw (c .match .keys6) (unfold computing-lines in refl)
 
 returns-7 : tie.Need-returns-7
-returns-7 c = any-otherwise (12 ∷ 11 ∷ 9 ∷ 6 ∷ 5 ∷ 4 ∷ []) _ (c .match .rest) large-uni-lines (unfold computing-lines in refl)
+returns-7 c = rest-otherwise its-rule (12 ∷ 11 ∷ 9 ∷ 6 ∷ 5 ∷ 4 ∷ []) _ (c .match .rest) large-uni-lines (unfold computing-lines in refl)
 
 pub uni-rule-spec : {M : Type 1} → statement M
 uni-rule-spec = tie.close (tie.spec returns returns-2 returns-3 returns-4 returns-5 returns-6 returns-7)
