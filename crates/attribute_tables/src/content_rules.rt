@@ -1,5 +1,5 @@
-// The rule for an attribute's contents, alone: for the judging of what a Create or a Set carries, which asks for it once for each attribute. Where a product has an
-// attribute, its rule is the same in all of them; so nothing here looks at the product.
+// The rule of an attribute's contents, and what a pointer is judged by: asked alone, and so without the rest of the line.
+// The product isn't asked: where a product has an attribute, its rule is the one that Large has.
 use class_tables::Product;
 use class_tables::Rule;
 ghost use mathlib.Core.Path.{_≡_};
