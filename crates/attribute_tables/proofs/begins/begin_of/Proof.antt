@@ -1,7 +1,8 @@
 use mathlib.Core.Path.{refl}
 use mathlib.Core.List.{[], _∷_}
 use Rattle.class_tables.specs.Computing.{computing-tables}
-use Rattle.attribute_tables.proofs.BeginLaws.{all-at-0}
+use Rattle.attribute_tables.proofs.ArmLaws.{answer-elsewhere}
+use Rattle.attribute_tables.proofs.BeginLaws.{its-begin}
 use Rattle.attribute_tables.proofs.begins.begin_of.Statement.{statement}
 use Rattle.attribute_tables.proofs.begins.begin_of.Tie as tie
 
@@ -30,7 +31,7 @@ returns-4 : tie.Need-returns-4
 returns-4 c = rw (c .before .match .keys4) (c .port-begin .ensures)
 
 returns-5 : tie.Need-returns-5
-returns-5 c = all-at-0 _ _ _ (47 ∷ 46 ∷ 45 ∷ 11 ∷ []) (c .match .rest) (c .before .pre) (unfold computing-tables in (refl, refl))
+returns-5 c = answer-elsewhere its-begin _ _ _ (47 ∷ 46 ∷ 45 ∷ 11 ∷ []) (c .match .rest) (c .before .pre) (unfold computing-tables in (refl, refl))
 
 pub begin-of-spec : {M : Type 1} → statement M
 begin-of-spec =
