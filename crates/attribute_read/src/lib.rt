@@ -1,7 +1,7 @@
 // The contents of attributes, read out of the bytes of a table: the live one, or the frozen copy of an upload.
 use attribute_tables::begins;
-use attribute_tables::ways;
-use attribute_tables::ways::Derived;
+use attribute_tables::readings;
+use attribute_tables::readings::Reading;
 use class_tables::Product;
 use class_tables::classes;
 use class_tables::sizes;
@@ -64,9 +64,9 @@ fn item_for(product: Product, class: u16, n: u16, at: usize) -> Item
     ensures { λ r. ⌜ r ≡ item-of (cat-of product) class at n ⌝ }
 {
     let size = size_of(product, class, n);
-    let derived = ways::derived_of(product, class, n);
-    match derived {
-        Derived::OfCreator(m) => {
+    let reading = readings::reading_of(product, class, n);
+    match reading {
+        Reading::OfCreator(m) => {
             let entry = at - classes::inside(product, class);
             let o = entry + in_entry(product, classes::leader_of(product, class), m);
             Item {
@@ -74,14 +74,14 @@ fn item_for(product: Product, class: u16, n: u16, at: usize) -> Item
                 origin: Origin::At(o),
             }
         }
-        Derived::CountOf(d, m) => {
+        Reading::CountOf(d, m) => {
             let o = in_entry(product, d, m);
             Item {
                 size,
                 origin: Origin::Count(d, o),
             }
         }
-        Derived::Own => {
+        Reading::Own => {
             let o = at + begins::begin_of(product, class, n);
             Item {
                 size,

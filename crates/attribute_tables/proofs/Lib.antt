@@ -1,4 +1,4 @@
 pub mod ArmLaws
 pub mod BeginLaws
 pub mod Judging
-pub mod WayLaws
+pub mod ReadingLaws

@@ -1,9 +1,9 @@
-// The attributes of each class, a line each, in the order of document 01; of each line alone where it begins, its rule and whose bytes it is
-// read from; and whether a content is legal by its line.
+// The attributes of each class, a line each, in the order of document 01; of each line alone where it begins, its rule and how it is
+// read; and whether a content is legal by its line.
 pub mod begins;
 pub mod content_rules;
 pub mod judge;
-pub mod ways;
+pub mod readings;
 
 use class_tables::Attribute;
 use class_tables::Product;

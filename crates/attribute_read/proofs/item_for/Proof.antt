@@ -4,7 +4,7 @@ use mathlib.Core.Bool.{true}
 use Rattle.rules.specs.Catalogue.{attribute, is-stored}
 use Rattle.class_tables.specs.Built.{cat-of, class-for}
 use Rattle.class_tables.proofs.ClassLaws.{inside-fits}
-use Rattle.attribute_tables.proofs.WayLaws.{stored-if-own, source-told}
+use Rattle.attribute_tables.proofs.ReadingLaws.{stored-if-own, source-told}
 use Rattle.attribute_read.proofs.Items.{stored-item, creator-item, counted-item, creator-kept, counted-kept, small-entry}
 use borrow.Author.Needs.{needs}
 use Rattle.attribute_read.proofs.item_for.Statement.{statement}
@@ -14,26 +14,26 @@ use Rattle.attribute_read.proofs.item_for.Lts as lts
 use Rattle.attribute_read.proofs.in_entry.Reads as in-entry-reads
 use Rattle.attribute_read.proofs.size_of.Reads as size-of-reads
 use Rattle.attribute_tables.proofs.begins.begin_of.Reads as begin-of-reads
-use Rattle.attribute_tables.proofs.ways.derived_of.Reads as derived-of-reads
+use Rattle.attribute_tables.proofs.readings.reading_of.Reads as reading-of-reads
 use Rattle.class_tables.proofs.classes.inside.Reads as inside-reads
 use Rattle.class_tables.proofs.classes.leader_of.Reads as leader-of-reads
 
 in-entry-requires : tie.Need-in-entry-requires
 in-entry-requires c κs =
-    let at-derived = c .before .before .before in
-    let at-derived-of = at-derived .before .before in
-    let s = at-derived-of .before .before in
-    creator-kept (s .args .product) (s .args .class) (s .args .n) (s .pre .1) (source-told _ (at-derived-of .derived-of .ensures) (at-derived .derived .given .1) refl)
+    let at-reading = c .before .before .before in
+    let at-reading-of = at-reading .before .before in
+    let s = at-reading-of .before .before in
+    creator-kept (s .args .product) (s .args .class) (s .args .n) (s .pre .1) (source-told _ (at-reading-of .reading-of .ensures) (at-reading .reading .given .1) refl)
     (c .leader-of .ensures)
 
 add-o : tie.Need-add-o
 add-o c =
-    let at-derived = c .before .before .before .before in
-    let at-derived-of = at-derived .before .before in
-    let s = at-derived-of .before .before in
-    let f = creator-kept (s .args .product) (s .args .class) (s .args .n) (s .pre .1) (source-told _ (at-derived-of .derived-of .ensures) (at-derived .derived .given .1) refl)
+    let at-reading = c .before .before .before .before in
+    let at-reading-of = at-reading .before .before in
+    let s = at-reading-of .before .before in
+    let f = creator-kept (s .args .product) (s .args .class) (s .args .n) (s .pre .1) (source-told _ (at-reading-of .reading-of .ensures) (at-reading .reading .given .1) refl)
     (c .before .leader-of .ensures) in
-    let z = small-entry (s .args .product) (c .before .leader-of .result) (at-derived .derived .given .0 .0) (f .0) (f .1) in
+    let z = small-entry (s .args .product) (c .before .leader-of .result) (at-reading .reading .given .0 .0) (f .0) (f .1) in
     let w = s .pre .0 .to-end in
     let i = inside-fits (s .args .product) (s .args .class) in
     let e = c .in-entry .ensures in
@@ -41,16 +41,16 @@ add-o c =
 
 in-entry-requires-2 : tie.Need-in-entry-requires-2
 in-entry-requires-2 c κs =
-    let at-derived-of = c .before .before .before in
-    let s = at-derived-of .before .before in
-    counted-kept (s .args .product) (s .args .class) (s .args .n) (s .pre .1) (source-told _ (at-derived-of .derived-of .ensures) (c .before .derived2 .given .1) refl)
+    let at-reading-of = c .before .before .before in
+    let s = at-reading-of .before .before in
+    counted-kept (s .args .product) (s .args .class) (s .args .n) (s .pre .1) (source-told _ (at-reading-of .reading-of .ensures) (c .before .reading2 .given .1) refl)
 
 -- what has its own bytes is stored
 kept : (c : tie.After-enum-told) → let s = c .before .before .before .before in is-stored (attribute (class-for (s .args .product) (s .args .class)) (s .args .n) .source) ≡ true
 kept c =
-    let at-derived-of = c .before .before in
-    let s = at-derived-of .before .before in
-    stored-if-own (attribute (class-for (s .args .product) (s .args .class)) (s .args .n) .source) (at-derived-of .derived-of .ensures) (c .enum-told .given .1) refl
+    let at-reading-of = c .before .before in
+    let s = at-reading-of .before .before in
+    stored-if-own (attribute (class-for (s .args .product) (s .args .class)) (s .args .n) .source) (at-reading-of .reading-of .ensures) (c .enum-told .given .1) refl
 
 begin-of-requires : tie.Need-begin-of-requires
 begin-of-requires c κs = (c .before .before .before .before .pre .1, kept c)
@@ -66,20 +66,20 @@ add-o-2 c =
 returns : tie.Need-returns
 returns c =
     let at-inside = c .before .before in
-    let at-derived = at-inside .before .before in
-    let at-derived-of = at-derived .before .before in
-    let s = at-derived-of .before .before in
-    creator-item (cat-of (s .args .product)) (s .args .class) (s .args .at) (s .args .n) (at-derived-of .before .size-of .ensures)
-    (source-told _ (at-derived-of .derived-of .ensures) (at-derived .derived .given .1) refl)
+    let at-reading = at-inside .before .before in
+    let at-reading-of = at-reading .before .before in
+    let s = at-reading-of .before .before in
+    creator-item (cat-of (s .args .product)) (s .args .class) (s .args .at) (s .args .n) (at-reading-of .before .size-of .ensures)
+    (source-told _ (at-reading-of .reading-of .ensures) (at-reading .reading .given .1) refl)
     (at-inside .inside .ensures) (c .before .leader-of .ensures) (c .in-entry .ensures)
 
 returns-2 : tie.Need-returns-2
 returns-2 c =
-    let at-derived2 = c .before .before in
-    let at-derived-of = at-derived2 .before .before in
-    let s = at-derived-of .before .before in
-    counted-item (cat-of (s .args .product)) (s .args .class) (s .args .at) (s .args .n) (at-derived-of .before .size-of .ensures)
-    (source-told _ (at-derived-of .derived-of .ensures) (at-derived2 .derived2 .given .1) refl) (c .in-entry2 .ensures)
+    let at-reading2 = c .before .before in
+    let at-reading-of = at-reading2 .before .before in
+    let s = at-reading-of .before .before in
+    counted-item (cat-of (s .args .product)) (s .args .class) (s .args .at) (s .args .n) (at-reading-of .before .size-of .ensures)
+    (source-told _ (at-reading-of .reading-of .ensures) (at-reading2 .reading2 .given .1) refl) (c .in-entry2 .ensures)
 
 returns-3 : tie.Need-returns-3
 returns-3 c =
