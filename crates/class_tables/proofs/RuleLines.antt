@@ -83,7 +83,7 @@ pub record Part (A : Type 0) : Type 0 where
   pub rest-if : (x : A) → is-rest x ≡ true → x ≡ rest
   pub absent-is-rest : is-rest (part (judged-by absent-line)) ≡ true
 
--- most contents have any rule, and are always judged
+-- the last arm says that any content is legal, and that it is always judged
 abbrev pub its-rule : Part Rule
 its-rule = record { part = λ j. j .0; rest = Any; is-rest = is-any; rest-if = any-rule; absent-is-rest = refl }
 
