@@ -64,7 +64,7 @@ fn condition_of(a: Attribute, product: Product, class: u16, own: &[u8], at: usiz
     }
 }
 
-// Is `v` a legal content of the attribute of this line, of an instance whose contents begin at `at` in `own`?
+// Is `v` a legal content of the attribute of this line, of an instance whose contents begin at `at` in `own`? For a report, which has the line at hand.
 pub fn is_legal(
     live: &[u8],
     product: Product,
@@ -87,7 +87,7 @@ pub fn is_legal(
     }
 }
 
-// Is a pointer of this instance judged? It is where attribute `only_if` is 1, and always where that is 0.
+// Is a pointer of this instance judged? Always if `only_if` is 0, which stands for none; else only if that attribute's content is 1.
 fn condition_met(product: Product, class: u16, only_if: u16, own: &[u8], at: usize) -> bool
     requires { ⌜ («only_if» ≢ 0 → Looked (class-for product class) «only_if») × (at + contents-width (class-for product class) ≤ length (now own)) ⌝ }
     ensures { λ r. ⌜ r ≡ is-met «only_if» (fixed-at (class-for product class) (now (own .entry)) at) ⌝ }

@@ -71,7 +71,7 @@ pub fn rule_of(product: Product, class: u16, n: u16) -> Rule
     }
 }
 
-// By which attribute of its instance a pointer is judged: only where that one is 1; 0: by none.
+// By which attribute of its instance a pointer is judged: only where that one's content is 1; the number 0 stands for none.
 pub fn only_if_of(product: Product, class: u16, n: u16) -> u16
     requires { ⌜ supported (class-for product class) n ≡ true ⌝ }
     ensures { λ r. ⌜ r ≡ line-for product class n .«only_if» ⌝ }

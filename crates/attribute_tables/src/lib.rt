@@ -1,5 +1,5 @@
-// The attributes of each class, a line each, in the order of document 01; of each line alone where it begins, its rule and how it is
-// read; and whether a content is legal by its line.
+// The attributes of each class, a line each, in the order of document 01, and whether a content is legal by its line; and of each attribute alone where
+// its content begins, how it is read, its rule, and what a pointer is judged by.
 pub mod begins;
 pub mod content_rules;
 pub mod judge;

@@ -4,7 +4,7 @@ use native.Mathlib.Nat.{add-assoc, add-zero}
 use native.Mathlib.Omega.{arith}
 use mathlib.Core.Path.{_≡_, refl, sym, _∙_, ap}
 use mathlib.Core.Bool.{true, false}
-use mathlib.Core.List.{List, [], _∷_}
+use mathlib.Core.List.{List, _∷_}
 use lib.ListN.{take, drop, getD}
 use lib.Seq.{getD-take, getD-drop, drop-drop}
 use lib.Dec.{eqb}
