@@ -60,7 +60,8 @@ module _ (pr : Product) (c : ℕ) (v : List ℕ) (long : length v ≡ 32) where
 
   -- ---- a new entry's contents
 
-  module _ (cr : is-created (k .creation) ≡ true) {size : ℕ} (e : size ≡ total (size-of k) (carried-numbers k)) {own : List ℕ} (copied : own ≡ laid 0 (take (size - 0) v) (replicate place-width 0)) where
+  module _ (cr : is-created (k .creation) ≡ true) {size : ℕ} (e : size ≡ total (size-of k) (carried-numbers k)) {own : List ℕ}
+      (copied : own ≡ laid 0 (take (size - 0) v) (replicate place-width 0)) where
     carried-laid : own ≡ with-carried pr c v
     carried-laid =
         let all : size - 0 ≡ total (size-of k) (carried-numbers k) = omega arith in

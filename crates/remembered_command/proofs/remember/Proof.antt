@@ -17,7 +17,8 @@ returns c =
     let first = second .before .before .before .before in
     let f = first .before .before .before .before .before .before in
     let a = f .args in
-    both-stored (replicate (1 + memory-length) 0) (a .m .now) (a .buffer .now) refl (f .pre .1) (f .pre .2) (a .memory .now) (first .copy-in .ensures) (second .copy-in2 .ensures) (f .pre .0) (third .copy-in3 .ensures)
+    both-stored (replicate (1 + memory-length) 0) (a .m .now) (a .buffer .now) refl (f .pre .1) (f .pre .2) (a .memory .now)
+    (first .copy-in .ensures) (second .copy-in2 .ensures) (f .pre .0) (third .copy-in3 .ensures)
 
 pub remember-spec : {M : Type 1} → statement M
 remember-spec =

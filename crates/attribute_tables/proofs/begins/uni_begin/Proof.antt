@@ -46,7 +46,9 @@ returns-12 : tie.Need-returns-12
 returns-12 c = answer-there its-begin 11 13 _ refl (c .match .keys12) (c .before .pre) (unfold computing-tables in refl)
 
 returns-13 : tie.Need-returns-13
-returns-13 c = answer-otherwise its-begin 11 (13 ∷ 12 ∷ 11 ∷ 10 ∷ 9 ∷ 8 ∷ 7 ∷ 6 ∷ 5 ∷ 4 ∷ 3 ∷ 2 ∷ []) _ _ refl (c .match .rest) (c .before .pre) (unfold computing-tables in refl)
+returns-13 c =
+    answer-otherwise its-begin 11 (13 ∷ 12 ∷ 11 ∷ 10 ∷ 9 ∷ 8 ∷ 7 ∷ 6 ∷ 5 ∷ 4 ∷ 3 ∷ 2 ∷ []) _ _ refl (c .match .rest) (c .before .pre)
+    (unfold computing-tables in refl)
 
 pub uni-begin-spec : {M : Type 1} → statement M
 uni-begin-spec =
