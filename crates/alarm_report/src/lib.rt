@@ -30,7 +30,7 @@ const BITMAP: usize = 8;
 
 const SEQUENCE: usize = 39;
 
-#[derive(Drop)]
+#[derive(Clone, Copy)]
 pub enum Change {
     // the byte of alarms as it is now
     To(u8),

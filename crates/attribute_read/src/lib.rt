@@ -16,7 +16,7 @@ use class_tables::{Product, classes, sizes};
 use table::Which;
 
 // Where an attribute's content comes from.
-#[derive(Drop)]
+#[derive(Clone, Copy)]
 pub enum Origin {
     // the bytes of the table from this place on
     At(usize),
@@ -25,14 +25,14 @@ pub enum Origin {
 }
 
 // An attribute of an instance: how many bytes it has, and where they come from.
-#[derive(Drop)]
+#[derive(Clone, Copy)]
 pub struct Item {
     pub size: usize,
     pub origin: Origin,
 }
 
 // Attributes of an instance, those of a mask. Its contents begin at `at` in the table.
-#[derive(Drop)]
+#[derive(Clone, Copy)]
 pub struct Shown {
     pub class: u16,
     pub number: u16,

@@ -4,7 +4,7 @@ use bench_terminal::lines::take_chunk;
 use libc::STDIN_FILENO;
 
 // What one read brought.
-#[derive(Drop)]
+#[derive(Clone, Copy)]
 struct Came {
     more: bool,
     run: Run,

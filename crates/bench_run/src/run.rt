@@ -4,7 +4,7 @@ ghost use Rattle.std.specs.Prelude.{◌≡◌, ◌≢◌};
 use std::num::wrapping_add_u64;
 use store::layout::STORE;
 
-#[derive(Drop)]
+#[derive(Clone, Copy)]
 pub struct Run {
     // any byte of input came
     pub seen: bool,

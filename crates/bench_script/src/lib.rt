@@ -8,7 +8,7 @@ use script_values::{
 };
 
 // What a line asks for.
-#[derive(Drop)]
+#[derive(Clone, Copy)]
 pub enum Asked {
     // a blank line, or a comment
     Nothing,
@@ -39,7 +39,7 @@ pub enum Asked {
 }
 
 // The first word of a line.
-#[derive(Drop)]
+#[derive(Clone, Copy)]
 pub enum Call {
     Power,
     Report,

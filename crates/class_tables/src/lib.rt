@@ -6,7 +6,7 @@ pub mod masks;
 pub mod sizes;
 pub mod slots;
 
-#[derive(Drop)]
+#[derive(Clone, Copy)]
 pub enum Product {
     Small,
     Large,
@@ -14,14 +14,14 @@ pub enum Product {
 }
 
 // What a number names: a product, or nothing that is built.
-#[derive(Drop)]
+#[derive(Clone, Copy)]
 pub enum Named {
     Is(Product),
     Nothing,
 }
 
 // What contents of an attribute are legal.
-#[derive(Drop)]
+#[derive(Clone, Copy)]
 pub enum Rule {
     Any,
     // from the first to the second
@@ -33,7 +33,7 @@ pub enum Rule {
 }
 
 // Every attribute can be read; these are its further rights.
-#[derive(Drop)]
+#[derive(Clone, Copy)]
 pub enum Rights {
     R,
     W,
@@ -43,7 +43,7 @@ pub enum Rights {
 }
 
 // Where an attribute's content comes from.
-#[derive(Drop)]
+#[derive(Clone, Copy)]
 pub enum Way {
     // stored, and this number at first
     First(u16),
@@ -57,7 +57,7 @@ pub enum Way {
     CountOf(u16, u16),
 }
 
-#[derive(Drop)]
+#[derive(Clone, Copy)]
 pub struct Attribute {
     pub size: usize,
     // where it stands in its instance's stored contents; 0 if it isn't stored
@@ -72,14 +72,14 @@ pub struct Attribute {
 }
 
 // What a Create carries behind the rest, that must be zero and isn't kept; number 0: nothing.
-#[derive(Drop)]
+#[derive(Clone, Copy)]
 pub struct Unkept {
     pub number: u16,
     pub size: usize,
 }
 
 // A content is legal, or not, or legal if this instance (class, number) is there.
-#[derive(Drop)]
+#[derive(Clone, Copy)]
 pub enum Verdict {
     Fine,
     Bad,
@@ -87,13 +87,13 @@ pub enum Verdict {
 }
 
 // Where something stands, if it is there.
-#[derive(Drop)]
+#[derive(Clone, Copy)]
 pub enum Found {
     At(usize),
     Nothing,
 }
 
-#[derive(Drop)]
+#[derive(Clone, Copy)]
 pub struct Instance {
     pub class: u16,
     pub number: u16,

@@ -54,7 +54,7 @@ fn take_message(store: &mut [u8], product: Product, m: &[u8], reply: &mut [u8]) 
 }
 
 // What a call finds before anything else.
-#[derive(Drop)]
+#[derive(Clone, Copy)]
 pub enum Entry {
     // room for a reply, and a sound store of this product
     To(Product),

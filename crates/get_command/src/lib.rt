@@ -24,7 +24,7 @@ use table::{Which, instances};
 // The most bytes that the reply to a Get has room for.
 const GET_ROOM: usize = 25;
 
-#[derive(Drop)]
+#[derive(Clone, Copy)]
 pub enum GetRefusal {
     Accepted,
     // a result alone

@@ -16,7 +16,7 @@ pub const INSTANCE_EXISTS: u8 = 7;
 pub const ATTRIBUTE_FAILED: u8 = 9;
 
 // What a call comes to.
-#[derive(Drop)]
+#[derive(Clone, Copy)]
 pub enum Outcome {
     // the reply buffer's first 48 bytes are to be sent
     Answered,
@@ -27,7 +27,7 @@ pub enum Outcome {
 }
 
 // What a power-on comes to.
-#[derive(Drop)]
+#[derive(Clone, Copy)]
 pub enum Started {
     // the store holds the fresh state
     Fresh,

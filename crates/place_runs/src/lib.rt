@@ -14,7 +14,7 @@ use std::num::wrapping_sub_u32;
 use store::layout::{ENTRY, KEY, PLACE};
 
 // A run of places ends before a place, if each of its own is legal.
-#[derive(Drop)]
+#[derive(Clone, Copy)]
 pub enum Run {
     Ends(usize),
     Bad,

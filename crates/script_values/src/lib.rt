@@ -5,7 +5,7 @@ ghost use Rattle.script_values.specs.Numbers.{digits_at, hex_marked, next_number
 ghost use Rattle.script_values.specs.HexBytes.{Gives, hex_from};
 
 // Why a line can't be read.
-#[derive(Drop)]
+#[derive(Clone, Copy)]
 pub enum Why {
     // the first word is no call, and does not begin with a hex digit
     UnknownWord,
@@ -30,21 +30,21 @@ pub enum Why {
 }
 
 // The next word: from where to where, or where one is missing.
-#[derive(Drop)]
+#[derive(Clone, Copy)]
 pub enum NextWord {
     Is { from: usize, to: usize },
     Missing(usize),
 }
 
 // A number and where its word ends.
-#[derive(Drop)]
+#[derive(Clone, Copy)]
 pub enum Number {
     Is { value: u16, next: usize },
     Wrong { place: usize, why: Why },
 }
 
 // The three numbers that a report and an alarm begin with, and where they end.
-#[derive(Drop)]
+#[derive(Clone, Copy)]
 pub enum Three {
     Are {
         class: u16,
@@ -59,14 +59,14 @@ pub enum Three {
 }
 
 // Bytes in hex: how many there are.
-#[derive(Drop)]
+#[derive(Clone, Copy)]
 pub enum Hex {
     Bytes(usize),
     Wrong { place: usize, why: Why },
 }
 
 // What bytes stand next to each other.
-#[derive(Drop)]
+#[derive(Clone, Copy)]
 pub enum Run {
     Blanks,
     Word,

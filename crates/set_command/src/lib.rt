@@ -26,7 +26,7 @@ const VALUES_END: usize = 32;
 const SET_ROOM: usize = 30;
 
 // What is wrong with a Set: every attribute that it may not name, or, if there is none and the values fit, every one whose content isn't legal.
-#[derive(Drop)]
+#[derive(Clone, Copy)]
 pub struct Judged {
     // those that the class doesn't have
     pub unsupported: u16,
@@ -38,7 +38,7 @@ pub struct Judged {
     pub long: bool,
 }
 
-#[derive(Drop)]
+#[derive(Clone, Copy)]
 pub enum SetRefusal {
     Accepted,
     // it names nothing, or its values have no room

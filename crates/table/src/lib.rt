@@ -16,7 +16,7 @@ use class_tables::Found;
 use store::layout::{IN_USE, KEY, PLACE, PLACES};
 
 // The live table, or the frozen copy of an upload.
-#[derive(Drop)]
+#[derive(Clone, Copy)]
 pub enum Which {
     Live,
     Frozen,

@@ -11,7 +11,7 @@ use class_tables::{Instance, Product, classes, slots};
 use store::layout::{KEY, PLACE, PLACES, SLOT, SLOTS};
 
 // An instance of a class: its number, and where its contents begin in the block.
-#[derive(Drop)]
+#[derive(Clone, Copy)]
 pub struct Spot {
     pub number: u16,
     pub at: usize,

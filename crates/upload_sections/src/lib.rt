@@ -12,7 +12,7 @@ ghost use Rattle.class_tables.specs.declared.Product.{Product};
 use class_tables::classes::MOST_CLASSES;
 use class_tables::{Product, classes};
 
-#[derive(Drop)]
+#[derive(Clone, Copy)]
 pub enum Section {
     // a section of this instance, whose contents begin at `at`; it shows the attributes of this mask
     At {

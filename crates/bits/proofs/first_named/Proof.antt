@@ -4,10 +4,10 @@ use Rattle.bits.proofs.Masks.{first_named}
 use Rattle.bits.proofs.first_named.Statement.{statement}
 use Rattle.bits.proofs.first_named.Tie as tie
 
-add_result : tie.Need-overflow-add-result
+add_result : tie.Need-overflow_add-result
 add_result c = omega (arith, leading_le 16 c.args.mask)
 
-cast_result : tie.Need-overflow-cast-result
+cast_result : tie.Need-overflow_cast-result
 cast_result c = omega (arith, leading_le 16 c.args.mask)
 
 returns : tie.Need-returns

@@ -17,7 +17,7 @@ returns c =
     let at_put_header = at_put_rest.before.before.before.before in
     let entry = at_put_header.before.before.before in
     let a = entry.args in
-    written (bytes 2 a.id) a.kind (bytes 2 a.class ++ bytes 2 a.number) at_put_header.put_header.new.0 at_put_rest.put_rest.new.0 a.buffer.now
+    written (bytes 2 a.id) a.kind (bytes 2 a.class ++ bytes 2 a.number) at_put_header.put_header.new.h at_put_rest.put_rest.new.r a.buffer.now
     refl refl (search rules) at_put_header.put_header.ensures at_put_rest.put_rest.ensures
 
 pub begin_spec : {M : Type 1} → statement M

@@ -9,16 +9,16 @@ use Rattle.message_frame.proofs.put_header.Lts as lts
 use Rattle.octets.proofs.high.Reads as high_reads
 use Rattle.octets.proofs.low.Reads as low_reads
 
-slice_write_h_5 : tie.Need-slice-write-h-5
+slice_write_h_5 : tie.Need-bounds-h-4
 slice_write_h_5 c = simp length-set (search rules)
 
-slice_write_h_6 : tie.Need-slice-write-h-6
+slice_write_h_6 : tie.Need-bounds-h-5
 slice_write_h_6 c = simp length-set (search rules)
 
-slice_write_h_7 : tie.Need-slice-write-h-7
+slice_write_h_7 : tie.Need-bounds-h-6
 slice_write_h_7 c = simp length-set (search rules)
 
-slice_write_h_8 : tie.Need-slice-write-h-8
+slice_write_h_8 : tie.Need-bounds-h-7
 slice_write_h_8 c = simp length-set (search rules)
 
 returns : tie.Need-returns
@@ -31,11 +31,11 @@ returns c =
     let a = entry.args in
     let fits = entry.ranges in
     eight a.h.now (search rules) at_high.high.result at_low.low.result a.kind 10
-    at_high2.high2.result at_low2.low2.result c.before.high3.result c.low3.result
+    at_high2.high-2.result at_low2.low-2.result c.before.high-3.result c.low-3.result
     ∙ rw (
       ← two_bytes a.id at_high.high.result at_low.low.result fits.id.fits at_high.high.ensures at_low.low.ensures,
-      ← two_bytes a.class at_high2.high2.result at_low2.low2.result fits.class.fits at_high2.high2.ensures at_low2.low2.ensures,
-      ← two_bytes a.number c.before.high3.result c.low3.result fits.number.fits c.before.high3.ensures c.low3.ensures,
+      ← two_bytes a.class at_high2.high-2.result at_low2.low-2.result fits.class.fits at_high2.high-2.ensures at_low2.low-2.ensures,
+      ← two_bytes a.number c.before.high-3.result c.low-3.result fits.number.fits c.before.high-3.ensures c.low-3.ensures,
     )
 
 pub put_header_spec : {M : Type 1} → statement M

@@ -10,8 +10,8 @@ returns : tie.Need-returns
 returns c =
     let u = c.before.before.before.before.before.before in
     let a = u.before.before.before.args in
-    let n = length u.shift_down.new.0 in
-    zero_the_end a.t.now u.shift_down.new.0 _ a.by (n - a.by) (n - (n - a.by)) u.shift_down.ensures (search rules)
+    let n = length u.shift_down.new.t in
+    zero_the_end a.t.now u.shift_down.new.t _ a.by (n - a.by) (n - (n - a.by)) u.shift_down.ensures (search rules)
     (omega arith) c.before.before.zero.ensures
 
 pub remove_front_spec : {M : Type 1} → statement M

@@ -9,67 +9,67 @@ use Rattle.script_values.proofs.digits.Statement.{statement}
 use Rattle.script_values.proofs.digits.Tie as tie
 
 -- the digits from i on, behind the value so far, give the answer
-abbrev invariant-loop : tie.invariant-loop
+abbrev invariant-loop : tie.invariant-loop-i
 invariant-loop text at base limit value₀ i₀ value i = (value < 65536) × (digits_from base limit value i (drop i text) ≡ digits_at base limit at (drop at text))
 
-abbrev decreases-loop : tie.decreases-loop
+abbrev decreases-loop : tie.decreases-loop-i
 decreases-loop text at base limit value₀ i₀ value i = length text - i
 
-returns : tie.Need-returns invariant-loop decreases-loop
-returns c = let a = c.before.before.args in no_digits a.base a.limit a.at a.text.now (omega arith)
+returns : tie.Need-returns-then-text-at invariant-loop decreases-loop
+returns c = let a = c.args in no_digits a.base a.limit a.at a.text.now (omega arith)
 
-loop-holds : tie.Need-loop-init invariant-loop decreases-loop
-loop-holds c = let a = c.before.before.args in (omega arith, some_digits a.base a.limit a.at a.text.now (omega arith))
+loop-holds : tie.Need-loop-i-init invariant-loop decreases-loop
+loop-holds c = let a = c.args in (omega arith, some_digits a.base a.limit a.at a.text.now (omega arith))
 
-returns-2 : tie.Need-returns-2 invariant-loop decreases-loop
+returns-2 : tie.Need-returns-then-base-d invariant-loop decreases-loop
 returns-2 c =
     let l = c.before.before.before.before in
-    let a = l.before.before.before.args in
-    digit_bad a.base a.limit l.loop.value l.loop.i c.before.digit.result a.text.now _ l.loop.invariant.1 (omega arith)
-    c.before.digit.ensures.0 (omega arith)
+    let a = l.args in
+    digit_bad a.base a.limit l.loop-i.value l.loop-i.i c.digit-d.result a.text.now _ l.loop-i.invariant.1 (omega arith)
+    c.digit-d.ensures.0 (omega arith)
 
-cast_more : tie.Need-overflow-cast-more invariant-loop decreases-loop
+cast_more : tie.Need-overflow_cast-more invariant-loop decreases-loop
 cast_more c = omega arith
 
-mul_more : tie.Need-overflow-mul-more invariant-loop decreases-loop
+mul_more : tie.Need-overflow_mul-more invariant-loop decreases-loop
 mul_more c =
     let l = c.before.before.before.before in
-    let z = product_fits l.loop.value l.before.before.before.args.base (omega arith) (omega arith) in
+    let z = product_fits l.loop-i.value l.args.base (omega arith) (omega arith) in
     omega arith
 
 cast_more_2 : tie.Need-overflow-cast-more-2 invariant-loop decreases-loop
 cast_more_2 c = omega arith
 
-add_more : tie.Need-overflow-add-more invariant-loop decreases-loop
+add_more : tie.Need-overflow_add-more invariant-loop decreases-loop
 add_more c =
     let l = c.before.before.before.before in
-    let z = product_fits l.loop.value l.before.before.before.args.base (omega arith) (omega arith) in
+    let z = product_fits l.loop-i.value l.args.base (omega arith) (omega arith) in
     omega arith
 
-returns-3 : tie.Need-returns-3 invariant-loop decreases-loop
+returns-3 : tie.Need-returns-then-limit-more invariant-loop decreases-loop
 returns-3 c =
     let l = c.before.before.before.before.before in
-    let a = l.before.before.before.args in
-    digit_large a.base a.limit l.loop.value l.loop.i c.before.before.digit.result a.text.now _ l.loop.invariant.1 (omega arith)
-    c.before.before.digit.ensures.0 (omega arith) (omega arith)
+    let a = l.args in
+    digit_large a.base a.limit l.loop-i.value l.loop-i.i c.digit-d.result a.text.now _ l.loop-i.invariant.1 (omega arith)
+    c.digit-d.ensures.0 (omega arith) (omega arith)
 
-cast_value : tie.Need-overflow-cast-value invariant-loop decreases-loop
+cast_value : tie.Need-overflow_cast-value invariant-loop decreases-loop
 cast_value c = omega arith
 
-loop-again : tie.Need-loop-preserved invariant-loop decreases-loop
+loop-again : tie.Need-loop-i-preserved invariant-loop decreases-loop
 loop-again c =
     let l = c.before.before.before.before.before in
-    let a = l.before.before.before.args in (
+    let a = l.args in (
       omega arith,
-      digit_good a.base a.limit l.loop.value l.loop.i c.before.before.digit.result a.text.now _ l.loop.invariant.1 (omega arith)
-          c.before.before.digit.ensures.0 (omega arith) (omega arith),
+      digit_good a.base a.limit l.loop-i.value l.loop-i.i c.digit-d.result a.text.now _ l.loop-i.invariant.1 (omega arith)
+          c.digit-d.ensures.0 (omega arith) (omega arith),
     )
 
-returns-4 : tie.Need-returns-4 invariant-loop decreases-loop
+returns-4 : tie.Need-returns invariant-loop decreases-loop
 returns-4 c =
     let l = c.before in
-    let a = l.before.before.before.args in
-    digits_end a.base a.limit l.loop.value l.loop.i 0 a.text.now _ l.loop.invariant.1 (omega arith)
+    let a = l.args in
+    digits_end a.base a.limit l.loop-i.value l.loop-i.i 0 a.text.now _ l.loop-i.invariant.1 (omega arith)
 
 pub digits_spec : {M : Type 1} → statement M
 digits_spec =

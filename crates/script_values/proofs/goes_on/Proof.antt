@@ -3,21 +3,21 @@ use borrow.Author.Rules.{rules}
 use Rattle.script_values.proofs.goes_on.Statement.{statement}
 use Rattle.script_values.proofs.goes_on.Tie as tie
 
-returns : tie.Need-returns
+returns : tie.Need-returns-in-Blanks
 unfolding goes_on
-returns c = rw c.before.enum_told.given.1 c.is_blank.ensures
+returns c = rw c.in-Blanks.is c.is_blank.ensures
 
-returns-2 : tie.Need-returns-2
+returns-2 : tie.Need-returns-in-Word
 unfolding goes_on
-returns-2 c = rw (c.before.enum_told2.given.1, c.is_blank2.ensures)
+returns-2 c = rw (c.in-Word.is, c.is_blank-in-Word.ensures)
 
-returns-3 : tie.Need-returns-3
+returns-3 : tie.Need-returns-in-Gaps
 unfolding goes_on
-returns-3 c = rw c.before.enum_told3.given.1 c.is_gap.ensures
+returns-3 c = rw c.in-Gaps.is c.is_gap.ensures
 
-returns-4 : tie.Need-returns-4
+returns-4 : tie.Need-returns-in-Code
 unfolding goes_on
-returns-4 c = rw c.enum_told4.given.1
+returns-4 c = rw c.in-Code.is
 
 pub goes_on_spec : {M : Type 1} → statement M
 goes_on_spec =

@@ -4,11 +4,11 @@ use borrow.Author.Rules.{rules}
 use Rattle.script_values.proofs.hex_marked.Statement.{statement}
 use Rattle.script_values.proofs.hex_marked.Tie as tie
 
-returns : tie.Need-returns
-returns c = mark_short c.before.args.text.now c.before.args.at c.if1.true
+returns : tie.Need-returns-then-text-at-lt2
+returns c = mark_short c.args.text.now c.args.at c.if-text-at-lt2.true
 
-returns-2 : tie.Need-returns-2
-returns-2 c = let a = c.before.before.before.args in mark_read a.text.now a.at (omega arith)
+returns-2 : tie.Need-returns
+returns-2 c = let a = c.args in mark_read a.text.now a.at (omega arith)
 
 pub hex_marked_spec : {M : Type 1} → statement M
 hex_marked_spec =

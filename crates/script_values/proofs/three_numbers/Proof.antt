@@ -14,44 +14,44 @@ cast_t21 c =
     (next_word a.text.now j.number.given.0.1.0) (sym c.before.before.before.number_at3.ensures ∙ c.before.value.given.1) in
     omega arith
 
-returns : tie.Need-returns
+returns : tie.Need-returns-in-Wrong
 returns c =
-    let a = c.before.before.before.before.before.args in
-    first_wrong a.text.now a.at c.before.place.given.0.0 c.before.place.given.0.1.0
-    (sym c.before.before.before.number_at.ensures ∙ c.before.place.given.1)
+    let a = c.args in
+    first_wrong a.text.now a.at c.in-Wrong.place c.in-Wrong.why
+    (sym c.number_at.ensures ∙ c.in-Wrong.is)
 
-returns-2 : tie.Need-returns-2
+returns-2 : tie.Need-returns-in-Wrong-number_at
 returns-2 c =
-    let k = c.before.before.before.before.before in
-    let a = k.before.before.before.before.args in
-    second_wrong a.text.now a.at k.class.given.0.0 k.class.given.0.1.0
-    (sym k.before.before.number_at.ensures ∙ k.class.given.1)
-    c.before.place2.given.0.0 c.before.place2.given.0.1.0
-    (sym c.before.before.before.number_at2.ensures ∙ c.before.place2.given.1)
+    let k = c.before.before in
+    let a = k.args in
+    second_wrong a.text.now a.at k.in-Is.class k.in-Is.next
+    (sym k.number_at.ensures ∙ k.in-Is.is)
+    c.in-Wrong-number_at.place c.in-Wrong-number_at.why
+    (sym c.number_at-in-Is.ensures ∙ c.in-Wrong-number_at.is)
 
-returns-3 : tie.Need-returns-3
+returns-3 : tie.Need-returns-in-Wrong-number_at-2
 returns-3 c =
-    let j = c.before.before.before.before.before in
-    let k = j.before.before.before.before in
-    let a = k.before.before.before.before.args in
-    third_wrong a.text.now a.at k.class.given.0.0 k.class.given.0.1.0
-    (sym k.before.before.number_at.ensures ∙ k.class.given.1)
-    j.number.given.0.0 j.number.given.0.1.0
-    (sym j.before.before.number_at2.ensures ∙ j.number.given.1)
-    c.before.place3.given.0.0 c.before.place3.given.0.1.0
-    (sym c.before.before.before.number_at3.ensures ∙ c.before.place3.given.1)
+    let j = c.before.before in
+    let k = j.before.before in
+    let a = k.args in
+    third_wrong a.text.now a.at k.in-Is.class k.in-Is.next
+    (sym k.number_at.ensures ∙ k.in-Is.is)
+    j.in-Is-number_at.number j.in-Is-number_at.next
+    (sym j.number_at-in-Is.ensures ∙ j.in-Is-number_at.is)
+    c.in-Wrong-number_at-2.place c.in-Wrong-number_at-2.why
+    (sym c.number_at-in-Is-number_at.ensures ∙ c.in-Wrong-number_at-2.is)
 
-returns-4 : tie.Need-returns-4
+returns-4 : tie.Need-returns-in-Is-number_at-2
 returns-4 c =
-    let j = c.before.before.before.before.before in
-    let k = j.before.before.before.before in
-    let a = k.before.before.before.before.args in
-    none_wrong a.text.now a.at k.class.given.0.0 k.class.given.0.1.0
-    (sym k.before.before.number_at.ensures ∙ k.class.given.1)
-    j.number.given.0.0 j.number.given.0.1.0
-    (sym j.before.before.number_at2.ensures ∙ j.number.given.1)
-    c.before.value.given.0.0 c.before.value.given.0.1.0
-    (sym c.before.before.before.number_at3.ensures ∙ c.before.value.given.1)
+    let j = c.before.before in
+    let k = j.before.before in
+    let a = k.args in
+    none_wrong a.text.now a.at k.in-Is.class k.in-Is.next
+    (sym k.number_at.ensures ∙ k.in-Is.is)
+    j.in-Is-number_at.number j.in-Is-number_at.next
+    (sym j.number_at-in-Is.ensures ∙ j.in-Is-number_at.is)
+    c.in-Is-number_at-2.value c.in-Is-number_at-2.next
+    (sym c.number_at-in-Is-number_at.ensures ∙ c.in-Is-number_at-2.is)
 
 pub three_numbers_spec : {M : Type 1} → statement M
 three_numbers_spec =

@@ -9,23 +9,23 @@ use borrow.Author.Rules.{rules}
 use Rattle.text_buffer.proofs.text.put.Statement.{statement}
 use Rattle.text_buffer.proofs.text.put.Tie as tie
 
-abbrev invariant-loop : tie.invariant-loop
+abbrev invariant-loop : tie.invariant-loop-i
 invariant-loop out₀ at text to₀ i₀ out to i = (i ≤ length text) × (length out ≡ length out₀) × Says out₀ at (take i text) to out
 
-abbrev decreases-loop : tie.decreases-loop
+abbrev decreases-loop : tie.decreases-loop-i
 decreases-loop out₀ at text to₀ i₀ out to i = length text - i
 
-loop-holds : tie.Need-loop-init invariant-loop decreases-loop
+loop-holds : tie.Need-loop-i-init invariant-loop decreases-loop
 loop-holds c = (search rules, search rules, says_nothing _ _)
 
-loop-again : tie.Need-loop-preserved invariant-loop decreases-loop
+loop-again : tie.Need-loop-i-preserved invariant-loop decreases-loop
 loop-again c =
     let l = c.before.before.before.before.before.before in
-    (search rules, search rules, and_then l.loop.invariant.2 c.before.before.put_byte.ensures (one_more l.before.before.before.args.text.now l.loop.i (search rules)))
+    (search rules, search rules, and_then l.loop-i.invariant.2 c.before.before.put_byte-to.ensures (one_more l.before.before.before.args.text.now l.loop-i.i (search rules)))
 
 returns : tie.Need-returns invariant-loop decreases-loop
 returns c =
-    says_as c.before.loop.invariant.2 (take_all c.before.loop.i c.before.before.before.before.args.text.now (search rules))
+    says_as c.before.loop-i.invariant.2 (take_all c.before.loop-i.i c.before.before.before.before.args.text.now (search rules))
 
 pub put_spec : {M : Type 1} → statement M
 put_spec =

@@ -3,10 +3,10 @@ use borrow.Author.Rules.{rules}
 use Rattle.text_buffer.proofs.text.put_byte.Statement.{statement}
 use Rattle.text_buffer.proofs.text.put_byte.Tie as tie
 
-returns : tie.Need-returns
+returns : tie.Need-returns-then-at-out
 returns c = says_byte _ _ _ (search rules)
 
-returns-2 : tie.Need-returns-2
+returns-2 : tie.Need-returns
 returns-2 c = says_full _ _ _ (search rules)
 
 pub put_byte_spec : {M : Type 1} → statement M

@@ -5,15 +5,15 @@ use borrow.Author.Rules.{rules}
 use Rattle.text_buffer.proofs.text.put_gap.Statement.{statement}
 use Rattle.text_buffer.proofs.text.put_gap.Tie as tie
 
-returns : tie.Need-returns
+returns : tie.Need-returns-then-begins_group
 returns c =
     let b = c.before.before.before.before.before in
-    says_as c.before.before.put_byte.ensures (a_gap b.before.before.args.i (sym b.begins_group.ensures ∙ c.before.before.before.before.if1.true))
+    says_as c.before.before.put_byte.ensures (a_gap b.before.before.args.i (sym b.begins_group.ensures ∙ c.before.before.before.before.if-begins_group.true))
 
-returns-2 : tie.Need-returns-2
+returns-2 : tie.Need-returns
 returns-2 c =
     let b = c.before in
-    says_as (says_nothing _ _) (no_gap b.before.before.args.i (sym b.begins_group.ensures ∙ c.if1.false))
+    says_as (says_nothing _ _) (no_gap b.before.before.args.i (sym b.begins_group.ensures ∙ c.if-begins_group.false))
 
 pub put_gap_spec : {M : Type 1} → statement M
 put_gap_spec =

@@ -7,7 +7,7 @@ use Rattle.text_buffer.proofs.text.put_hex.Tie as tie
 returns : tie.Need-returns
 returns c =
     let p = c.before.before.before.before.before.before.before in
-    and_then p.put_byte.ensures c.before.before.put_byte2.ensures (two_digits p.before.digit.ensures c.before.before.before.digit2.ensures)
+    and_then p.put_byte-middle.ensures c.before.before.put_byte.ensures (two_digits p.before.digit.ensures c.before.before.before.digit-2.ensures)
 
 pub put_hex_spec : {M : Type 1} → statement M
 put_hex_spec =

@@ -9,15 +9,14 @@ returns : tie.Need-returns
 returns c =
     let h = c.before.before.before.before.before.before.before in
     and_then
-    h.before.before.before.before.before.put.ensures
-    (and_then h.put_hex.ensures c.before.before.put_hex2.ensures refl)
+    h.before.before.before.before.before.put-digits.ensures
+    (and_then h.put_hex-low.ensures c.before.before.put_hex.ensures refl)
     (four_digits h.before.before.before.before.before.before.before.before.before.args.n h.before.high.ensures c.before.before.before.low.ensures)
 
 pub put_number_spec : {M : Type 1} → statement M
 put_number_spec =
     tie.close
     (tie.spec
-    (λ c. search rules)
     (λ c κs. search rules)
     (λ c κs. search rules)
     (λ c κs. search rules)
