@@ -18,7 +18,7 @@ returns c =
     let f = first.before.before.before.before.before.before in
     let a = f.args in
     both_stored (replicate (1 + memory_length) 0) a.m.now a.buffer.now refl f.requires.1 f.requires.2 a.memory.now
-    first.copy_in.ensures second.copy_in2.ensures f.requires.0 third.copy_in3.ensures
+    first.copy_in.ensures second.copy_in-2.ensures f.requires.0 third.copy_in-3.ensures
 
 pub remember_spec : {M : Type 1} → statement M
 remember_spec =

@@ -23,36 +23,36 @@ all_four c m pr e h =
     in_its_product (λ pr b. (b && ((eqb m 4 || eqb m 6) || ((b && eqb m 8) || eqb m 9))) ≡ among m (class_for pr c).commands) pr e
     (among_4 m 4 6 8 9 h.0, among_4 m 4 6 8 9 h.1, ap (among m) h.2)
 
-returns : tie.Need-returns
+returns : tie.Need-returns-in-2
 returns c =
-    let m = c.before.before.args.message in
-    rw c.match.keys1
-    (in_its_product (λ pr b. (((b && eqb m 8) || eqb m 9) || eqb m 15) ≡ among m (class_for pr 2).commands) _ c.before.provisioned.ensures
+    let m = c.args.message in
+    rw c.in-2.is
+    (in_its_product (λ pr b. (((b && eqb m 8) || eqb m 9) || eqb m 15) ≡ among m (class_for pr 2).commands) _ c.provisioned-changes.ensures
     (among_3 m 8 9 15 (unfold computing_tables in refl), among_3 m 8 9 15 (unfold computing_tables in refl), among_2 m 9 15 (unfold computing_tables in refl)))
 
-returns-2 : tie.Need-returns-2
+returns-2 : tie.Need-returns-in-11
 returns-2 c =
-    let m = c.before.before.args.message in
-    rw c.match.keys2
-    (in_its_product (λ pr b. ((b && eqb m 8) || eqb m 9) ≡ among m (class_for pr 11).commands) _ c.before.provisioned.ensures
+    let m = c.args.message in
+    rw c.in-11.is
+    (in_its_product (λ pr b. ((b && eqb m 8) || eqb m 9) ≡ among m (class_for pr 11).commands) _ c.provisioned-changes.ensures
     (among_2 m 8 9 (unfold computing_tables in refl), among_2 m 8 9 (unfold computing_tables in refl), among_1 m 9 (unfold computing_tables in refl)))
 
-returns-3 : tie.Need-returns-3
+returns-3 : tie.Need-returns-in-46
 returns-3 c =
-    let m = c.before.before.args.message in
-    rw c.match.keys3
-    (in_its_product (λ pr b. (b && ((b && eqb m 8) || eqb m 9)) ≡ among m (class_for pr 46).commands) _ c.before.provisioned.ensures
+    let m = c.args.message in
+    rw c.in-46.is
+    (in_its_product (λ pr b. (b && ((b && eqb m 8) || eqb m 9)) ≡ among m (class_for pr 46).commands) _ c.provisioned-changes.ensures
     (among_2 m 8 9 (unfold computing_tables in refl), among_2 m 8 9 (unfold computing_tables in refl), unfold computing_tables in refl))
 
-returns-4 : tie.Need-returns-4
+returns-4 : tie.Need-returns-in-45
 returns-4 c =
-    let m = c.before.before.args.message in
-    let it = c.before.provisioned.ensures in
+    let m = c.args.message in
+    let it = c.provisioned-changes.ensures in
     ⊎_elim (λ e. rw e (all_four 45 m _ it (unfold computing_tables in (refl, refl, refl)))) (λ e. rw e (all_four 47 m _ it (unfold computing_tables in (refl, refl, refl))))
-    c.match.keys4
+    c.in-45.is
 
-returns-5 : tie.Need-returns-5
-returns-5 c = let r = c.match.rest in
+returns-5 : tie.Need-returns-in_default
+returns-5 c = let r = c.in_default.in_default-own.rest in
     none_among _ _ (45 ∷ 47 ∷ 46 ∷ 11 ∷ 2 ∷ [])
     (((((tt, r.0.0.0.1), r.0.0.1), r.0.1), λ e. r.1 (inr e)), λ e. r.1 (inl e))
     _ (λ k. k.commands) (unfold computing_tables in (refl, refl))

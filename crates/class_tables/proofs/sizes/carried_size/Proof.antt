@@ -12,14 +12,14 @@ use Rattle.class_tables.proofs.sizes.carried_size.Tie as tie
 abbrev carried : Class → ℕ
 carried k = total (size_of k) (carried_numbers k)
 
-returns : tie.Need-returns
-returns c = by_its_product carried 45 _ c.before.match.keys1 c.by.ensures (unfold computing_tables in (refl, refl, refl))
+returns : tie.Need-returns-in-45
+returns c = by_its_product carried 45 _ c.in-45.is c.by.ensures (unfold computing_tables in (refl, refl, refl))
 
-returns-2 : tie.Need-returns-2
-returns-2 c = by_its_product carried 47 _ c.before.match.keys2 c.by2.ensures (unfold computing_tables in (refl, refl, refl))
+returns-2 : tie.Need-returns-in-47
+returns-2 c = by_its_product carried 47 _ c.in-47.is c.by-in-47.ensures (unfold computing_tables in (refl, refl, refl))
 
-returns-3 : tie.Need-returns-3
-returns-3 c = otherwise_0 _ _ (47 ∷ 45 ∷ []) c.match.rest carried (unfold computing_tables in (refl, refl))
+returns-3 : tie.Need-returns-in_default
+returns-3 c = otherwise_0 _ _ (47 ∷ 45 ∷ []) c.in_default.in_default-own.rest carried (unfold computing_tables in (refl, refl))
 
 pub carried_size_spec : {M : Type 1} → statement M
 carried_size_spec =

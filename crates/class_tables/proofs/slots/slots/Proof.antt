@@ -4,14 +4,14 @@ use Rattle.class_tables.specs.Computing.{computing_tables}
 use Rattle.class_tables.proofs.slots.slots.Statement.{statement}
 use Rattle.class_tables.proofs.slots.slots.Tie as tie
 
-returns : tie.Need-returns
-returns c = rw c.enum_told.given.1 (unfold computing_tables in refl)
+returns : tie.Need-returns-in-Small
+returns c = rw c.in-Small.is (unfold computing_tables in refl)
 
-returns-2 : tie.Need-returns-2
-returns-2 c = rw c.enum_told2.given.1 (unfold computing_tables in refl)
+returns-2 : tie.Need-returns-in-Large
+returns-2 c = rw c.in-Large.is (unfold computing_tables in refl)
 
-returns-3 : tie.Need-returns-3
-returns-3 c = rw c.enum_told3.given.1 (unfold computing_tables in refl)
+returns-3 : tie.Need-returns-in-Meter
+returns-3 c = rw c.in-Meter.is (unfold computing_tables in refl)
 
 pub slots_spec : {M : Type 1} → statement M
 slots_spec = tie.close (tie.spec (λ c. search rules) (λ c. search rules) (λ c. search rules) returns returns-2 returns-3)
