@@ -1,6 +1,6 @@
 -- What both products have: classes that come about in the same way, and instances that stand in matched tables.
 use Prim.Native.Nat.{ℕ, ◌<◌}
-use mathlib.Core.Path.{◌≡◌, refl, sym, ◌∙◌}
+use mathlib.Core.Path.{◌≡◌, refl, sym, ap, subst, ◌∙◌}
 use mathlib.Core.Bool.{true, false}
 use mathlib.Core.Option.{Option, none, some}
 use mathlib.Core.List.{[], ◌∷◌}
@@ -70,7 +70,7 @@ automatic_held cat wf t h c i y =
     stands = cases (eqb c ont_data)
         (λ e. let two : c ≡ ont_data = eqb_eq c ont_data e in
         or_cases (rw (two, wf.class_2_has_instance_0_alone) at y)
-        (λ z. rw (two, eqb_eq i 0 z) (among_here (key ont_data 0) (automatic_keys cat)))
+        (λ z. subst (λ (x : ℕ). among x (standing cat wf) ≡ true) (sym (ap (λ (x : ℕ). key x i) two ∙ ap (key ont_data) (eqb_eq i 0 z))) (among_here (key ont_data 0) (automatic_keys cat)))
         (λ z. never z))
         (λ e. among_back (key c i) (key ont_data 0 ∷ []) (automatic_keys cat) (automatic_among cat c i (class cat c) (known_class cat c kn) (eqb_ne c ont_data e) y))
 

@@ -3,17 +3,17 @@ use borrow.Author.Rules.{rules}
 use Rattle.attribute_tables.proofs.attribute_of.Statement.{statement}
 use Rattle.attribute_tables.proofs.attribute_of.Tie as tie
 
-returns : tie.Need-returns
+returns : tie.Need-returns-in-Small
 unfolding line_for lines_of
-returns c = record { is_line = rw c.before.enum_told.given.1 c.small.ensures }
+returns c = record { is_line = rw c.in-Small.is c.small.ensures }
 
-returns-2 : tie.Need-returns-2
+returns-2 : tie.Need-returns-in-Large
 unfolding line_for lines_of
-returns-2 c = record { is_line = rw c.before.enum_told2.given.1 c.large.ensures }
+returns-2 c = record { is_line = rw c.in-Large.is c.large.ensures }
 
-returns-3 : tie.Need-returns-3
+returns-3 : tie.Need-returns-in-Meter
 unfolding line_for lines_of
-returns-3 c = record { is_line = rw c.before.enum_told3.given.1 c.meter.ensures }
+returns-3 c = record { is_line = rw c.in-Meter.is c.meter.ensures }
 
 pub attribute_of_spec : {M : Type 1} → statement M
 attribute_of_spec =

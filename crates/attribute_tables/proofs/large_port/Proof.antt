@@ -6,11 +6,11 @@ use Rattle.class_tables.proofs.Tables.{as_before, listed}
 use Rattle.attribute_tables.proofs.large_port.Statement.{statement}
 use Rattle.attribute_tables.proofs.large_port.Tie as tie
 
-returns : tie.Need-returns
-returns c = listed large_port_lines 9 c.carried.ensures c.before.match.keys1 (unfold computing_lines in refl)
+returns : tie.Need-returns-in-9
+returns c = listed large_port_lines 9 c.carried.ensures c.in-9.is (unfold computing_lines in refl)
 
-returns-2 : tie.Need-returns-2
-returns-2 c = unfold large_port_lines in as_before port_lines _ (9 ∷ []) _ c.port.ensures c.before.match.rest (unfold computing_maps in refl)
+returns-2 : tie.Need-returns-in_default
+returns-2 c = unfold large_port_lines in as_before port_lines _ (9 ∷ []) _ c.port.ensures c.in_default.in_default-own.rest (unfold computing_maps in refl)
 
 pub large_port_spec : {M : Type 1} → statement M
 large_port_spec =

@@ -5,7 +5,7 @@ use Rattle.class_tests.proofs.between.Tie as tie
 
 returns : tie.Need-returns
 returns c =
-    let a = c.before.args in
+    let a = c.args in
     in_range 65536 a.x a.low c.wrapping_sub_u16.result (omega arith) (omega arith) (omega arith) c.wrapping_sub_u16.ensures a.high (omega arith) (omega arith)
 
 pub between_spec : {M : Type 1} → statement M

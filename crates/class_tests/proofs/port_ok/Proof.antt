@@ -17,20 +17,20 @@ returns : tie.Need-returns
 returns c =
     let read = c.before.before.before.before in
     let start = read.before.before.before in
-    let b = start.before.args.c.now in
-    let known = known_bytes b (λ i. (start.shared_slice_known.given i).fits) in
-    rw (read.number_at2.ensures, read.before.number_at.ensures, read.before.before.pointer_legal.ensures)
+    let b = start.args.c.now in
+    let known = known_bytes b (λ i. (start.shared_slice_known-1.given i).fits) in
+    rw (read.number_at-cost.ensures, read.number_at-priority.ensures, read.pointer_legal-pointer.ensures)
     (⊎_elim
-    (λ w. rw (w.1.given.1, w.2)
+    (λ w. rw (w.in-Small.is, w.end-is)
     (◌∙◌ {b = contents_test Small 47 b && ltb (byte b 12) 1} (unfold computing_tables computing_tests in refl) (sym (unfold ◌and◌ in small_port b (search rules) known))))
     (⊎_elim
-    (λ w. rw (w.1.given.1, w.2, leb-suc-suc (byte b 12) 1)
+    (λ w. rw (w.in-Large.is, w.end-is, leb-suc-suc (byte b 12) 1)
     (◌∙◌ {b = contents_test Large 47 b} (unfold computing_tables computing_tests in refl) (sym (large_port b (search rules) known))))
-    (λ w. rw (w.1.given.1, w.2)
+    (λ w. rw (w.in-Meter.is, w.end-is)
     (let rest = (((pointer_test Meter b && leb (two b 6) 255) && leb 1 (two b 8)) && leb (byte b 10) 1) && leb (byte b 11) 1 in
     ◌∙◌ {b = rest && ltb (byte b 12) 0} refl
     (rw (leb-suc-zero (byte b 12), no_front (cat_of Meter) 47 b (unfold computing_tables in refl) port_front) (join_never rest)))))
-    c.before.before.before.match.branch)
+    c.match-product.branch-raw)
 
 pub port_ok_spec : {M : Type 1} → statement M
 port_ok_spec =

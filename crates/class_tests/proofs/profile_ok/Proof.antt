@@ -10,48 +10,48 @@ use Rattle.class_tests.proofs.Entries.{profile_filled, profile_narrow}
 use Rattle.class_tests.proofs.profile_ok.Statement.{statement}
 use Rattle.class_tests.proofs.profile_ok.Tie as tie
 
-returns : tie.Need-returns
+returns : tie.Need-returns-then-profile_fills
 returns c =
     let third = c.before.before.before.before.before in
     let second = third.before.before in
     let first = second.before.before in
     let start = first.before.before in
-    let a = start.before.args in
+    let a = start.args in
     let b = a.c.now in
-    let known = known_bytes b (λ i. (start.shared_slice_known.given i).fits) in
+    let known = known_bytes b (λ i. (start.shared_slice_known-1.given i).fits) in
     rw (
-      third.between3.ensures,
-      second.between2.ensures,
-      first.between.ensures,
-      third.before.number_at3.ensures,
-      second.before.number_at2.ensures,
-      first.before.number_at.ensures,
+      third.between-delay.ensures,
+      second.between-hello.ensures,
+      first.between-age.ensures,
+      third.number_at-3.ensures,
+      second.number_at-2.ensures,
+      first.number_at.ensures,
     )
     (◌∙◌ {b = contents_test Large 45 b} (unfold computing_tables computing_tests in refl)
-    (profile_filled b (search rules) known a.product c.before.profile_fills.ensures c.if1.true))
+    (profile_filled b (search rules) known a.product c.profile_fills.ensures c.if-profile_fills.true))
 
-returns-2 : tie.Need-returns-2
+returns-2 : tie.Need-returns-else-profile_fills
 returns-2 c =
     let asked = c.before.before in
     let third = asked.before.before.before.before.before in
     let second = third.before.before in
     let first = second.before.before in
     let start = first.before.before in
-    let a = start.before.args in
+    let a = start.args in
     let b = a.c.now in
-    let known = known_bytes b (λ i. (start.shared_slice_known.given i).fits) in
+    let known = known_bytes b (λ i. (start.shared_slice_known-1.given i).fits) in
     rw (
-      third.between3.ensures,
-      second.between2.ensures,
-      first.between.ensures,
-      third.before.number_at3.ensures,
-      second.before.number_at2.ensures,
-      first.before.number_at.ensures,
-      c.before.provisioned.ensures,
+      third.between-delay.ensures,
+      second.between-hello.ensures,
+      first.between-age.ensures,
+      third.number_at-3.ensures,
+      second.number_at-2.ensures,
+      first.number_at.ensures,
+      c.provisioned.ensures,
       c.zeros_from.ensures,
     )
     (◌∙◌ {b = (contents_test Large 45 b && provisioned a.product) && all_zero (drop 31 b)} (unfold computing_tables computing_tests in refl)
-    (unfold ◌and◌ in profile_narrow b (search rules) known a.product asked.before.profile_fills.ensures asked.if1.false))
+    (unfold ◌and◌ in profile_narrow b (search rules) known a.product asked.profile_fills.ensures asked.if-profile_fills.false))
 
 pub profile_ok_spec : {M : Type 1} → statement M
 profile_ok_spec =

@@ -13,31 +13,31 @@ use Rattle.bits.proofs.digit.Reads as digit_reads
 use Rattle.bits.proofs.first_named.Reads as first_named_reads
 use Rattle.class_tables.proofs.sizes.sizes.Reads as sizes_reads
 
-abbrev invariant-loop : tie.invariant-loop
+abbrev invariant-loop : tie.invariant-loop-left
 invariant-loop class asked sizes left₀ sum₀ left sum = Walked (digit sizes) asked left sum
 
-abbrev decreases-loop : tie.decreases-loop
+abbrev decreases-loop : tie.decreases-loop-left
 decreases-loop class asked sizes left₀ sum₀ left sum = left
 
-loop-holds : tie.Need-loop-init invariant-loop decreases-loop
+loop-holds : tie.Need-loop-left-init invariant-loop decreases-loop
 loop-holds c = nothing_walked _ _
 
-add_sum : tie.Need-overflow-add-sum invariant-loop decreases-loop
-add_sum c = let z = next_small _ c.before.before.before.loop.invariant c.before.first_named.ensures in omega (arith, c.digit.ensures)
+add_sum : tie.Need-overflow_add-sum invariant-loop decreases-loop
+add_sum c = let z = next_small _ c.loop-left.invariant c.first_named-n.ensures in omega (arith, c.digit-sum.ensures)
 
-sub_left : tie.Need-overflow-sub-left invariant-loop decreases-loop
-sub_left c = bit_in c.before.before.first_named.ensures c.bit_of.ensures
+sub_left : tie.Need-overflow_sub-left invariant-loop decreases-loop
+sub_left c = bit_in c.first_named-n.ensures c.bit_of-left.ensures
 
-loop-less : tie.Need-loop-smaller invariant-loop decreases-loop
-loop-less c = fewer_left c.before.before.first_named.ensures c.bit_of.ensures
+loop-less : tie.Need-loop-left-smaller invariant-loop decreases-loop
+loop-less c = fewer_left c.first_named-n.ensures c.bit_of-left.ensures
 
-loop-again : tie.Need-loop-preserved invariant-loop decreases-loop
+loop-again : tie.Need-loop-left-preserved invariant-loop decreases-loop
 loop-again c =
     let f = c.before.before in
-    one_walked f.before.before.loop.invariant f.first_named.ensures c.bit_of.ensures c.before.digit.ensures
+    one_walked f.loop-left.invariant f.first_named-n.ensures c.bit_of-left.ensures c.digit-sum.ensures
 
 returns : tie.Need-returns invariant-loop decreases-loop
-returns c = all_walked c.before.loop.invariant c.loop-test.false ∙ total_read _ _ _ c.before.before.sizes.ensures _
+returns c = all_walked c.loop-left.invariant c.loop-left-test.false ∙ total_read _ _ _ c.sizes-sizes.ensures _
 
 pub total_size_spec : {M : Type 1} → statement M
 total_size_spec =

@@ -10,9 +10,9 @@ use Rattle.class_tables.proofs.masks.supported_mask.Reads as supported_mask_read
 
 returns : tie.Need-returns
 returns c =
-    let a = c.before.before.args in
+    let a = c.args in
     c.without.ensures ∙
-    unsupported_is a.product a.class a.asked c.before.supported_mask.result (search rules) (search rules) c.before.supported_mask.ensures
+    unsupported_is a.product a.class a.asked c.supported_mask.result (search rules) (search rules) c.supported_mask.ensures
 
 pub unsupported_spec : {M : Type 1} → statement M
 unsupported_spec = tie.close (tie.spec (λ c κs. search rules) (λ c κs. search rules) returns)

@@ -14,10 +14,10 @@ use Rattle.class_tables.proofs.masks.writable_mask.Reads as writable_mask_reads
 
 returns : tie.Need-returns
 returns c =
-    let a = c.before.before.before.before.args in
-    let s = c.before.before.before.supported_mask in
-    let w = c.before.writable_mask in
-    c.without.ensures ∙ ap (λ m. bit_and m (65535 - w.result)) c.before.before.common.ensures ∙
+    let a = c.args in
+    let s = c.supported_mask in
+    let w = c.writable_mask in
+    c.without.ensures ∙ ap (λ m. bit_and m (65535 - w.result)) c.common-there.ensures ∙
     unwritable_is a.product a.class a.asked s.result w.result (search rules) (search rules) (search rules) s.ensures w.ensures
 
 pub unwritable_spec : {M : Type 1} → statement M

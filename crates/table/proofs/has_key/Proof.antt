@@ -8,33 +8,33 @@ use Rattle.table.proofs.has_key.Reads as reads
 use Rattle.table.proofs.has_key.Lts as lts
 use Rattle.octets.proofs.key_at.Reads as key_at_reads
 
-returns : tie.Need-returns
+returns : tie.Need-returns-then-j-eq0
 returns c =
     let f = c.before.before in
-    none_passed f.args.b.now f.requires.0 f.args.key f.requires.1 _ refl c.if1.true
+    none_passed f.args.b.now f.requires.0 f.args.key f.requires.1 _ refl c.if-j-eq0.true
 
-mul_key_at : tie.Need-overflow-mul-key-at
+mul_key_at : tie.Need-overflow_mul-j
 mul_key_at c =
     let f = c.before.before in
     let z = few_passed f.args.b.now f.requires.0 f.args.key in
     omega arith
 
-add_key_at : tie.Need-overflow-add-key-at
+add_key_at : tie.Need-overflow_add-j
 add_key_at c =
     let f = c.before.before in
     let z = few_passed f.args.b.now f.requires.0 f.args.key in
     omega arith
 
-key_at_requires : tie.Need-key-at-requires
+key_at_requires : tie.Need-key_at-requires
 key_at_requires c κs =
     let f = c.before.before in
     let z = few_passed f.args.b.now f.requires.0 f.args.key in
     omega arith
 
-returns-2 : tie.Need-returns-2
+returns-2 : tie.Need-returns
 returns-2 c =
     let f = c.before.before.before in
-    last_looked_at f.args.b.now f.requires.0 f.args.key f.requires.1 c.before.if1.false _ c.key_at.ensures
+    last_looked_at f.args.b.now f.requires.0 f.args.key f.requires.1 c.if-j-eq0.false _ c.key_at.ensures
 
 pub has_key_spec : {M : Type 1} → statement M
 has_key_spec =

@@ -12,10 +12,10 @@ use Rattle.store.specs.Layout.{in_use_at, place_at}
 
 returns : tie.Need-returns
 returns c =
-    let a = c.before.before.before.before.before.before.before.args in
-    let f = c.before.before.insert_front in
+    let a = c.args in
+    let f = c.insert_front in
     let at = place_at a.j in
-    insert_back a.b.now at (length a.b.now - at) refl (omega arith) (search rules) a.r.now f.new.0 _ _ (add-one (byte a.b.now in_use_at)) f.ensures
+    insert_back a.b.now at (length a.b.now - at) refl (omega arith) (search rules) a.r.now f.new.t _ _ (add-one (byte a.b.now in_use_at)) f.ensures
 
 pub insert_place_spec : {M : Type 1} → statement M
 insert_place_spec =

@@ -8,22 +8,22 @@ use Rattle.table.proofs.place_of.Lts as lts
 use Rattle.table.proofs.has_key.Reads as has_key_reads
 use Rattle.table.proofs.rank_of.Reads as rank_of_reads
 
-sub_t5 : tie.Need-overflow-sub-t5
+sub_t5 : tie.Need-overflow_sub-result
 sub_t5 c =
     let at_has_key = c.before in
     let at_rank_of = at_has_key.before in
     let f = at_rank_of.before.before in
-    one_passed f.args.b.now f.requires f.args.key at_rank_of.rank_of.ensures _ refl (sym c.if1.true ∙ at_has_key.has_key_lem.ensures)
+    one_passed f.args.b.now f.requires f.args.key at_rank_of.rank_of-j.ensures _ refl (sym c.if-has_key.true ∙ at_has_key.has_key.ensures)
 
-returns : tie.Need-returns
+returns : tie.Need-returns-then-has_key
 returns c =
     let at_has_key = c.before in
     let at_rank_of = at_has_key.before in
     let f = at_rank_of.before.before in
-    last_passed f.args.b.now f.requires f.args.key at_rank_of.rank_of.ensures _ refl (sym c.if1.true ∙ at_has_key.has_key_lem.ensures)
+    last_passed f.args.b.now f.requires f.args.key at_rank_of.rank_of-j.ensures _ refl (sym c.if-has_key.true ∙ at_has_key.has_key.ensures)
 
-returns-2 : tie.Need-returns-2
-returns-2 c = not_placed _ (sym c.if1.false ∙ c.before.has_key_lem.ensures)
+returns-2 : tie.Need-returns
+returns-2 c = not_placed _ (sym c.if-has_key.false ∙ c.has_key.ensures)
 
 pub place_of_spec : {M : Type 1} → statement M
 place_of_spec = tie.close (tie.spec (λ c κs. search rules) (λ c κs. search rules) sub_t5 returns returns-2)

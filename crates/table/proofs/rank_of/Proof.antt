@@ -9,11 +9,11 @@ use Rattle.table.proofs.in_use.Reads as in_use_reads
 use Rattle.table.proofs.past.Reads as past_reads
 
 -- 32 places and 31 more are more than there are
-past_requires : tie.Need-past-requires
+past_requires : tie.Need-past-to_32-requires
 past_requires c κs =
     let f = c.before.before in
     let z = few_passed f.args.b.now f.requires f.args.key in
-    (f.requires, c.in_use.ensures, omega arith, omega arith, record { from_low = omega arith; near = omega arith })
+    (f.requires, c.in_use-n.ensures, omega arith, omega arith, record { from_low = omega arith; near = omega arith })
 
 pub rank_of_spec : {M : Type 1} → statement M
 rank_of_spec =

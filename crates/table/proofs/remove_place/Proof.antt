@@ -10,10 +10,10 @@ use Rattle.table.proofs.remove_place.Tie as tie
 
 returns : tie.Need-returns
 returns c =
-    let a = c.before.before.before.before.before.before.args in
-    let f = c.before.before.remove_front in
+    let a = c.args in
+    let f = c.remove_front in
     let at = place_at a.j in
-    remove_back a.b.now at (length a.b.now - at) refl (omega arith) (search rules) place_length f.new.0 _ _ refl f.ensures
+    remove_back a.b.now at (length a.b.now - at) refl (omega arith) (search rules) place_length f.new.t _ _ refl f.ensures
 
 pub remove_place_spec : {M : Type 1} → statement M
 remove_place_spec =

@@ -5,26 +5,26 @@ use Rattle.class_tables.proofs.RuleLines.{its_rule, rest_otherwise}
 use Rattle.attribute_tables.proofs.content_rules.profile_rule.Statement.{statement}
 use Rattle.attribute_tables.proofs.content_rules.profile_rule.Tie as tie
 
-returns : tie.Need-returns
-returns c = rw c.match.keys1 (unfold computing_lines in refl)
+returns : tie.Need-returns-in-1
+returns c = rw c.in-1.is (unfold computing_lines in refl)
 
-returns-2 : tie.Need-returns-2
-returns-2 c = rw c.match.keys2 (unfold computing_lines in refl)
+returns-2 : tie.Need-returns-in-2
+returns-2 c = rw c.in-2.is (unfold computing_lines in refl)
 
-returns-3 : tie.Need-returns-3
-returns-3 c = rw c.match.keys3 (unfold computing_lines in refl)
+returns-3 : tie.Need-returns-in-3
+returns-3 c = rw c.in-3.is (unfold computing_lines in refl)
 
-returns-4 : tie.Need-returns-4
-returns-4 c = rw c.match.keys4 (unfold computing_lines in refl)
+returns-4 : tie.Need-returns-in-5
+returns-4 c = rw c.in-5.is (unfold computing_lines in refl)
 
-returns-5 : tie.Need-returns-5
-returns-5 c = rw c.match.keys5 (unfold computing_lines in refl)
+returns-5 : tie.Need-returns-in-6
+returns-5 c = rw c.in-6.is (unfold computing_lines in refl)
 
-returns-6 : tie.Need-returns-6
-returns-6 c = rw c.match.keys6 (unfold computing_lines in refl)
+returns-6 : tie.Need-returns-in-7
+returns-6 c = rw c.in-7.is (unfold computing_lines in refl)
 
-returns-7 : tie.Need-returns-7
-returns-7 c = rest_otherwise its_rule (7 ∷ 6 ∷ 5 ∷ 3 ∷ 2 ∷ 1 ∷ []) _ c.match.rest profile_lines (unfold computing_lines in refl)
+returns-7 : tie.Need-returns-in_default
+returns-7 c = rest_otherwise its_rule (7 ∷ 6 ∷ 5 ∷ 3 ∷ 2 ∷ 1 ∷ []) _ c.in_default.in_default-own.rest profile_lines (unfold computing_lines in refl)
 
 pub profile_rule_spec : {M : Type 1} → statement M
 profile_rule_spec = tie.close (tie.spec returns returns-2 returns-3 returns-4 returns-5 returns-6 returns-7)

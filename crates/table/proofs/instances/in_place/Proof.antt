@@ -15,34 +15,34 @@ use Rattle.octets.proofs.key_of.Reads as key_of_reads
 use Rattle.table.proofs.place_of.Reads as place_of_reads
 
 -- the last sum is the largest
-add_t12 : tie.Need-overflow-add-t12
+add_t12 : tie.Need-overflow_add-result-in-At-2
 add_t12 c =
-    let a = c.before.before.before.before.before.before.args in
-    let pre = c.before.before.before.before.before.before.requires in
-    let few = place_small a.b.now pre.0 _ (ap found_of c.before.found.given.1) c.before.before.before.place_of.ensures in
+    let a = c.args in
+    let pre = c.requires in
+    let few = place_small a.b.now pre.0 _ (ap found_of c.in-At.is) c.place_of-found.ensures in
     let near = pre.1 in
     omega arith
 
-mul_t9 : tie.Need-overflow-mul-t9
+mul_t9 : tie.Need-overflow_mul-result
 mul_t9 c = let all = add_t12 c in omega arith
 
-add_t10 : tie.Need-overflow-add-t10
+add_t10 : tie.Need-overflow_add-result
 add_t10 c = let all = add_t12 c in omega arith
 
-add_t11 : tie.Need-overflow-add-t11
+add_t11 : tie.Need-overflow_add-result-in-At
 add_t11 c = let all = add_t12 c in omega arith
 
-returns : tie.Need-returns
+returns : tie.Need-returns-in-At
 returns c =
-    let a = c.before.before.before.before.before.before.args in
-    there (λ j. place_at j + key_length + a.inside) (ap found_of c.before.found.given.1)
-    (c.before.before.before.place_of.ensures ∙ ap (λ k. position k (keys_in a.b.now)) c.before.before.before.before.key_of.ensures)
+    let a = c.args in
+    there (λ j. place_at j + key_length + a.inside) (ap found_of c.in-At.is)
+    (c.place_of-found.ensures ∙ ap (λ k. position k (keys_in a.b.now)) c.key_of.ensures)
 
-returns-2 : tie.Need-returns-2
+returns-2 : tie.Need-returns-in-Nothing
 returns-2 c =
-    let a = c.before.before.before.before.before.args in
-    nowhere (λ j. place_at j + key_length + a.inside) (ap found_of c.enum_told.given.1)
-    (c.before.before.place_of.ensures ∙ ap (λ k. position k (keys_in a.b.now)) c.before.before.before.key_of.ensures)
+    let a = c.args in
+    nowhere (λ j. place_at j + key_length + a.inside) (ap found_of c.in-Nothing.is)
+    (c.place_of-found.ensures ∙ ap (λ k. position k (keys_in a.b.now)) c.key_of.ensures)
 
 pub in_place_spec : {M : Type 1} → statement M
 in_place_spec =

@@ -10,20 +10,20 @@ use Rattle.table.proofs.instances.in_slot.Reads as reads
 use Rattle.table.proofs.instances.in_slot.Lts as lts
 use Rattle.class_tables.proofs.slots.slot_of.Reads as slot_of_reads
 
-add_t8 : tie.Need-overflow-add-t8
+add_t8 : tie.Need-overflow_add-result
 add_t8 c =
-    let a = c.before.before.before.before.args in
-    let z = slot_small a.product _ (ap found_of c.before.slot.given.1) c.before.before.before.slot_of.ensures in
+    let a = c.args in
+    let z = slot_small a.product _ (ap found_of c.in-At.is) c.slot_of-slot.ensures in
     omega arith
 
-mul_t7 : tie.Need-overflow-mul-t7
+mul_t7 : tie.Need-overflow_mul-result
 mul_t7 c = let all = add_t8 c in omega arith
 
-returns : tie.Need-returns
-returns c = there slot_at (ap found_of c.before.slot.given.1) c.before.before.before.slot_of.ensures
+returns : tie.Need-returns-in-At
+returns c = there slot_at (ap found_of c.in-At.is) c.slot_of-slot.ensures
 
-returns-2 : tie.Need-returns-2
-returns-2 c = nowhere slot_at (ap found_of c.enum_told.given.1) c.before.before.slot_of.ensures
+returns-2 : tie.Need-returns-in-Nothing
+returns-2 c = nowhere slot_at (ap found_of c.in-Nothing.is) c.slot_of-slot.ensures
 
 pub in_slot_spec : {M : Type 1} → statement M
 in_slot_spec =

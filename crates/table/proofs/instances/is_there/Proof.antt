@@ -8,11 +8,11 @@ use Rattle.table.proofs.instances.is_there.Reads as reads
 use Rattle.table.proofs.instances.is_there.Lts as lts
 use Rattle.table.proofs.instances.locate.Reads as locate_reads
 
-returns : tie.Need-returns
-returns c = sym (ap (λ f. is_some (found_of f)) c.enum_told.given.1) ∙ ap is_some c.before.before.locate.ensures
+returns : tie.Need-returns-in-At
+returns c = sym (ap (λ f. is_some (found_of f)) c.in-At.is) ∙ ap is_some c.locate-found.ensures
 
-returns-2 : tie.Need-returns-2
-returns-2 c = sym (ap (λ f. is_some (found_of f)) c.enum_told2.given.1) ∙ ap is_some c.before.before.locate.ensures
+returns-2 : tie.Need-returns-in-Nothing
+returns-2 c = sym (ap (λ f. is_some (found_of f)) c.in-Nothing.is) ∙ ap is_some c.locate-found.ensures
 
 pub is_there_spec : {M : Type 1} → statement M
 is_there_spec = tie.close (tie.spec (λ c κs. search rules) (λ c. search rules) (λ c. search rules) returns returns-2)

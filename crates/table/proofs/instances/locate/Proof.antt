@@ -13,31 +13,31 @@ use Rattle.class_tables.proofs.classes.leader_of.Reads as leader_of_reads
 use Rattle.table.proofs.instances.in_place.Reads as in_place_reads
 use Rattle.table.proofs.instances.in_slot.Reads as in_slot_reads
 
-in_place_requires : tie.Need-in-place-requires
+in_place_requires : tie.Need-in_place-requires
 in_place_requires c κs =
     let f = c.before.before.before.before.before in
     let w = inside_fits f.args.product f.args.class in
     let e = c.inside.ensures in
     (f.requires, omega arith)
 
-returns : tie.Need-returns
+returns : tie.Need-returns-then-is_created
 returns c =
     let at_if1 = c.before.before in
     let at_is_created = at_if1.before in
     let at_leader_of = at_is_created.before in
-    with_its_leader _ _ _ _ at_leader_of.leader_of.ensures at_is_created.is_created.ensures at_if1.if1.true c.before.inside.ensures c.in_place.ensures
+    with_its_leader _ _ _ _ at_leader_of.leader_of-leader.ensures at_is_created.is_created.ensures at_if1.if-is_created.true c.inside.ensures c.in_place.ensures
 
-returns-2 : tie.Need-returns-2
+returns-2 : tie.Need-returns-then-is_ont_data
 returns-2 c =
     let at_if1 = c.before.before in
     let at_is_created = at_if1.before in
     let at_leader_of = at_is_created.before in
-    in_front _ _ _ _ at_leader_of.leader_of.ensures at_is_created.is_created.ensures at_if1.if1.false c.before.is_ont_data.ensures c.if2.true
+    in_front _ _ _ _ at_leader_of.leader_of-leader.ensures at_is_created.is_created.ensures at_if1.if-is_created.false c.is_ont_data.ensures c.if-is_ont_data.true
 
-returns-3 : tie.Need-returns-3
+returns-3 : tie.Need-returns
 returns-3 c =
     let asked = c.before.before in
-    by_itself _ _ _ _ asked.before.before.before.leader_of.ensures asked.before.before.is_created.ensures asked.before.if1.false asked.is_ont_data.ensures c.before.if2.false
+    by_itself _ _ _ _ asked.leader_of-leader.ensures asked.is_created.ensures asked.if-is_created.false asked.is_ont_data.ensures c.if-is_ont_data.false
     c.in_slot.ensures
 
 pub locate_spec : {M : Type 1} → statement M
