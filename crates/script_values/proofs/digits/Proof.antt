@@ -23,9 +23,8 @@ loop-holds c = let a = c.args in (omega arith, some_digits a.base a.limit a.at a
 
 returns-2 : tie.Need-returns-then-base-d invariant-loop decreases-loop
 returns-2 c =
-    let l = c.before.before.before.before in
-    let a = l.args in
-    digit_bad a.base a.limit l.loop-i.value l.loop-i.i c.digit-d.result a.text.now _ l.loop-i.invariant.1 (omega arith)
+    let a = c.args in
+    digit_bad a.base a.limit c.loop-i.value c.loop-i.i c.digit-d.result a.text.now _ c.loop-i.invariant.1 (omega arith)
     c.digit-d.ensures.0 (omega arith)
 
 cast_more : tie.Need-overflow_cast-more invariant-loop decreases-loop
@@ -33,24 +32,21 @@ cast_more c = omega arith
 
 mul_more : tie.Need-overflow_mul-more invariant-loop decreases-loop
 mul_more c =
-    let l = c.before.before.before.before in
-    let z = product_fits l.loop-i.value l.args.base (omega arith) (omega arith) in
+    let z = product_fits c.loop-i.value c.args.base (omega arith) (omega arith) in
     omega arith
 
-cast_more_2 : tie.Need-overflow-cast-more-2 invariant-loop decreases-loop
+cast_more_2 : tie.Need-overflow_cast-more-in-loop-i-2 invariant-loop decreases-loop
 cast_more_2 c = omega arith
 
 add_more : tie.Need-overflow_add-more invariant-loop decreases-loop
 add_more c =
-    let l = c.before.before.before.before in
-    let z = product_fits l.loop-i.value l.args.base (omega arith) (omega arith) in
+    let z = product_fits c.loop-i.value c.args.base (omega arith) (omega arith) in
     omega arith
 
 returns-3 : tie.Need-returns-then-limit-more invariant-loop decreases-loop
 returns-3 c =
-    let l = c.before.before.before.before.before in
-    let a = l.args in
-    digit_large a.base a.limit l.loop-i.value l.loop-i.i c.digit-d.result a.text.now _ l.loop-i.invariant.1 (omega arith)
+    let a = c.args in
+    digit_large a.base a.limit c.loop-i.value c.loop-i.i c.digit-d.result a.text.now _ c.loop-i.invariant.1 (omega arith)
     c.digit-d.ensures.0 (omega arith) (omega arith)
 
 cast_value : tie.Need-overflow_cast-value invariant-loop decreases-loop
@@ -58,18 +54,16 @@ cast_value c = omega arith
 
 loop-again : tie.Need-loop-i-preserved invariant-loop decreases-loop
 loop-again c =
-    let l = c.before.before.before.before.before in
-    let a = l.args in (
+    let a = c.args in (
       omega arith,
-      digit_good a.base a.limit l.loop-i.value l.loop-i.i c.digit-d.result a.text.now _ l.loop-i.invariant.1 (omega arith)
+      digit_good a.base a.limit c.loop-i.value c.loop-i.i c.digit-d.result a.text.now _ c.loop-i.invariant.1 (omega arith)
           c.digit-d.ensures.0 (omega arith) (omega arith),
     )
 
 returns-4 : tie.Need-returns invariant-loop decreases-loop
 returns-4 c =
-    let l = c.before in
-    let a = l.args in
-    digits_end a.base a.limit l.loop-i.value l.loop-i.i 0 a.text.now _ l.loop-i.invariant.1 (omega arith)
+    let a = c.args in
+    digits_end a.base a.limit c.loop-i.value c.loop-i.i 0 a.text.now _ c.loop-i.invariant.1 (omega arith)
 
 pub digits_spec : {M : Type 1} → statement M
 digits_spec =

@@ -9,49 +9,33 @@ use borrow.Author.Rules.{rules}
 use Rattle.script_values.proofs.number_at.Statement.{statement}
 use Rattle.script_values.proofs.number_at.Tie as tie
 
--- the word that was found, and that it lies within the text
-found : (c : tie.In-Is-2) → next_word c.args.text.now c.args.at
-    ≡ word.Is c.in-Is.from c.in-Is.to
-found c = sym c.next_word.ensures ∙ c.in-Is.is
-
-lies : (c : tie.In-Is-2) → Within c.args.text.now c.in-Is.from c.in-Is.to
-lies c = word_within _ _ _ _ (found c)
-
 slice_aggregate_word : tie.Need-slice_bounds-word-end
-slice_aggregate_word c =
-    let w = c in
-    let a = w.args in
-    sym (length-take-le w.in-Is.to a.text.now (lies w).ends)
+slice_aggregate_word c = sym (length-take-le c.in-Is.to c.args.text.now (word_within _ _ _ _ (sym c.next_word.ensures ∙ c.in-Is.is)).ends)
 
 hex_marked_requires : tie.Need-hex_marked-requires
 hex_marked_requires c κs =
-    let w = c.before.before in
-    let a = w.before.before.before.before.args in
-    let i = lies w in
-    rw (length-take-le w.from.given.0.1.0 a.text.now i.ends) i.forward
+    let i = word_within _ _ _ _ (sym c.next_word.ensures ∙ c.in-Is.is) in
+    rw (length-take-le c.in-Is.to c.args.text.now i.ends) i.forward
 
-add_digits : tie.Need-overflow-add-digits
-add_digits c = let i = lies c.before.before.before.before in omega arith
+add_digits : tie.Need-overflow_add-from
+add_digits c = let i = word_within _ _ _ _ (sym c.next_word.ensures ∙ c.in-Is.is) in omega arith
 
 returns : tie.Need-returns-then-hex_marked
 returns c =
-    let w = c.before.before.before in
-    let a = w.before.args in
-    c.digits.ensures ∙ number_hex a.limit a.text.now a.at w.from-1.given.0.0 w.from-1.given.0.1.0 (found w)
+    let a = c.args in
+    c.digits.ensures ∙ number_hex a.limit a.text.now a.at c.in-Is.from c.in-Is.to (sym c.next_word.ensures ∙ c.in-Is.is)
     (sym c.hex_marked.ensures ∙ c.if-hex_marked.true)
 
 returns-2 : tie.Need-returns-in-Missing
 returns-2 c =
-    let o = c.before in
-    let a = o.args in
-    ap (number_of a.limit a.text.now) (sym c.in-Missing.is ∙ o.next_word.ensures)
+    let a = c.args in
+    ap (number_of a.limit a.text.now) (sym c.in-Missing.is ∙ c.next_word.ensures)
 
 returns-3 : tie.Need-returns-else-hex_marked
 returns-3 c =
-    let w = c.before.before.before in
-    let a = w.before.args in
-    c.digits-in-Is.ensures ∙ number_decimal a.limit a.text.now a.at w.from-1.given.0.0 w.from-1.given.0.1.0 (found w)
-    (sym c.hex_marked.ensures ∙ c.if-hex_marked.false)
+    let a = c.args in
+    c.digits-in-Is.ensures ∙ number_decimal a.limit a.text.now a.at c.in-Is.from c.in-Is.to
+    (sym c.next_word.ensures ∙ c.in-Is.is) (sym c.hex_marked.ensures ∙ c.if-hex_marked.false)
 
 pub number_at_spec : {M : Type 1} → statement M
 number_at_spec =
