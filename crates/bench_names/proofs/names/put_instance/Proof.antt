@@ -9,14 +9,13 @@ returns : tie.Need-returns
 unfolding spelt
 returns c =
     let p = c.before.before.before.before.before.before in
-    and_then p.before.before.before.before.before.put_class.ensures (and_then p.put.ensures c.before.before.put_number.ensures refl) refl
+    and_then p.put_class-named.ensures (and_then p.put-blank.ensures c.put_number.ensures refl) refl
 
 pub put_instance_spec : {M : Type 1} → statement M
 put_instance_spec =
     tie.close
     (tie.spec
     (λ c κs. search rules)
-    (λ c. search rules)
     (λ c κs. search rules)
     (λ c κs. search rules)
     (λ c. search rules)

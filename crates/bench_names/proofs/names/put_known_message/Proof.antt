@@ -6,8 +6,11 @@ use Rattle.bench_names.proofs.names.put_known_message.Tie as tie
 
 returns : tie.Need-returns
 unfolding spelt message_names
-returns c = c.before.before.put_nth.ensures
+returns c = c.put_nth.ensures
 
 pub put_known_message_spec : {M : Type 1} → statement M
 put_known_message_spec =
-    tie.close (tie.spec (λ c. search rules) (λ c κs. search rules) (λ c. search rules) returns)
+    tie.close (tie.spec
+    (λ c κs. search rules)
+    (λ c. search rules)
+    returns)

@@ -7,8 +7,12 @@ use Rattle.bench_names.proofs.names.put_other_class.Tie as tie
 
 returns : tie.Need-returns
 unfolding spelt
-returns c = and_then c.before.before.before.before.before.before.put.ensures c.before.before.put_number.ensures refl
+returns c = and_then c.put-word.ensures c.put_number.ensures refl
 
 pub put_other_class_spec : {M : Type 1} → statement M
 put_other_class_spec =
-    tie.close (tie.spec (λ c. search rules) (λ c κs. search rules) (λ c κs. search rules) (λ c. search rules) returns)
+    tie.close (tie.spec
+    (λ c κs. search rules)
+    (λ c κs. search rules)
+    (λ c. search rules)
+    returns)

@@ -6,7 +6,10 @@ use Rattle.bench_names.proofs.names.put_reason.Tie as tie
 
 returns : tie.Need-returns
 unfolding spelt drop_reasons
-returns c = c.before.before.put_nth.ensures
+returns c = c.put_nth.ensures
 
 pub put_reason_spec : {M : Type 1} → statement M
-put_reason_spec = tie.close (tie.spec (λ c. search rules) (λ c κs. search rules) (λ c. search rules) returns)
+put_reason_spec = tie.close (tie.spec
+    (λ c κs. search rules)
+    (λ c. search rules)
+    returns)
