@@ -5,17 +5,15 @@ use borrow.Author.Rules.{rules}
 use Rattle.bench_script.proofs.alarm.Statement.{statement}
 use Rattle.bench_script.proofs.alarm.Tie as tie
 
-returns : tie.Need-returns
+returns : tie.Need-returns-in-Wrong
 unfolding alarm
 returns c =
-    let o = c.before.before.before in
-    by_case (alarm_of o.before.before.args.text.now) o.three_numbers.ensures c.before.place.given.1 refl
+    by_case (alarm_of c.args.text.now) c.three_numbers.ensures c.in-Wrong.is refl
 
-returns-2 : tie.Need-returns-2
+returns-2 : tie.Need-returns-in-Are
 unfolding alarm
 returns-2 c =
-    let o = c.before.before.before.before in
-    by_case (alarm_of o.before.before.args.text.now) o.three_numbers.ensures c.before.before.class.given.1 c.on_or_off.ensures
+    by_case (alarm_of c.args.text.now) c.three_numbers.ensures c.in-Are.is c.on_or_off.ensures
 
 pub alarm_spec : {M : Type 1} → statement M
 alarm_spec =

@@ -7,26 +7,26 @@ use borrow.Author.Rules.{rules}
 use Rattle.bench_script.proofs.message.Statement.{statement}
 use Rattle.bench_script.proofs.message.Tie as tie
 
-returns : tie.Need-returns
+returns : tie.Need-returns-then-digit-eq16
 returns c =
-    let a = c.before.before.before.before.before.args in
-    message_unknown (length a.bytes.now) a.text.now a.bytes.now a.from (sym c.before.digit.ensures.0 ∙ c.if1.true)
+    let a = c.args in
+    message_unknown (length a.bytes.now) a.text.now a.bytes.now a.from (sym c.digit.ensures.0 ∙ c.if-digit-eq16.true)
 
-returns-2 : tie.Need-returns-2
+returns-2 : tie.Need-returns-in-Wrong
 returns-2 c =
-    let o = c.before.before.before.before.before in
+    let o = c.before.before.before in
     let d = o.before.before.before in
-    let a = d.before.before.before.before.args in
-    message_known (length a.bytes.now) a.text.now a.bytes.now a.from (λ q. o.before.before.if1.false (d.digit.ensures.0 ∙ q))
-    o.hex_bytes.result _ _ o.hex_bytes.ensures (ap (with_bytes asked.Message) (sym c.before.place.given.1))
+    let a = d.args in
+    message_known (length a.bytes.now) a.text.now a.bytes.now a.from (λ q. o.if-digit-eq16.false (d.digit.ensures.0 ∙ q))
+    o.hex_bytes.result _ _ o.hex_bytes.ensures (ap (with_bytes asked.Message) (sym c.in-Wrong.is))
 
-returns-3 : tie.Need-returns-3
+returns-3 : tie.Need-returns-in-Bytes
 returns-3 c =
-    let o = c.before.before.before.before.before in
+    let o = c.before.before.before in
     let d = o.before.before.before in
-    let a = d.before.before.before.before.args in
-    message_known (length a.bytes.now) a.text.now a.bytes.now a.from (λ q. o.before.before.if1.false (d.digit.ensures.0 ∙ q))
-    o.hex_bytes.result _ _ o.hex_bytes.ensures (ap (with_bytes asked.Message) (sym c.before.n.given.1))
+    let a = d.args in
+    message_known (length a.bytes.now) a.text.now a.bytes.now a.from (λ q. o.if-digit-eq16.false (d.digit.ensures.0 ∙ q))
+    o.hex_bytes.result _ _ o.hex_bytes.ensures (ap (with_bytes asked.Message) (sym c.in-Bytes.is))
 
 pub message_spec : {M : Type 1} → statement M
 message_spec =

@@ -7,32 +7,25 @@ use borrow.Author.Rules.{rules}
 use Rattle.bench_script.proofs.report.Statement.{statement}
 use Rattle.bench_script.proofs.report.Tie as tie
 
-returns : tie.Need-returns
+returns : tie.Need-returns-in-Wrong
 returns c =
-    let o = c.before.before.before in
-    let a = o.before.before.before.args in
-    report_wrong (length a.bytes.now) a.text.now a.bytes.now a.at c.before.place.given.0.0 c.before.place.given.0.1.0
-    (sym o.three_numbers.ensures ∙ c.before.place.given.1)
+    let a = c.args in
+    report_wrong (length a.bytes.now) a.text.now a.bytes.now a.at c.in-Wrong.place c.in-Wrong.why
+    (sym c.three_numbers.ensures ∙ c.in-Wrong.is)
 
-returns-2 : tie.Need-returns-2
+returns-2 : tie.Need-returns-in-Wrong-hex_bytes
 returns-2 c =
-    let o = c.before.before.before.before.before in
-    let k = o.before.before.before in
-    let t = k.class.given.0 in
-    let a = k.before.before.before.before.before.args in
-    report_right (length a.bytes.now) a.text.now a.bytes.now a.at t.0 t.1.0 t.1.1.0 t.1.1.1.0
-    (sym k.before.before.three_numbers.ensures ∙ k.class.given.1) o.hex_bytes.result _ _ o.hex_bytes.ensures
-    (ap (with_bytes (asked.Report t.0 t.1.0 t.1.1.0)) (sym c.before.place2.given.1))
+    let a = c.args in
+    report_right (length a.bytes.now) a.text.now a.bytes.now a.at c.in-Are.class c.in-Are.number c.in-Are.attribute c.in-Are.next
+    (sym c.three_numbers.ensures ∙ c.in-Are.is) c.hex_bytes.result _ _ c.hex_bytes.ensures
+    (ap (with_bytes (asked.Report c.in-Are.class c.in-Are.number c.in-Are.attribute)) (sym c.in-Wrong-hex_bytes.is))
 
-returns-3 : tie.Need-returns-3
+returns-3 : tie.Need-returns-in-Bytes
 returns-3 c =
-    let o = c.before.before.before.before.before in
-    let k = o.before.before.before in
-    let t = k.class.given.0 in
-    let a = k.before.before.before.before.before.args in
-    report_right (length a.bytes.now) a.text.now a.bytes.now a.at t.0 t.1.0 t.1.1.0 t.1.1.1.0
-    (sym k.before.before.three_numbers.ensures ∙ k.class.given.1) o.hex_bytes.result _ _ o.hex_bytes.ensures
-    (ap (with_bytes (asked.Report t.0 t.1.0 t.1.1.0)) (sym c.before.length.given.1))
+    let a = c.args in
+    report_right (length a.bytes.now) a.text.now a.bytes.now a.at c.in-Are.class c.in-Are.number c.in-Are.attribute c.in-Are.next
+    (sym c.three_numbers.ensures ∙ c.in-Are.is) c.hex_bytes.result _ _ c.hex_bytes.ensures
+    (ap (with_bytes (asked.Report c.in-Are.class c.in-Are.number c.in-Are.attribute)) (sym c.in-Bytes.is))
 
 pub report_spec : {M : Type 1} → statement M
 report_spec =
