@@ -1,8 +1,12 @@
 // Texts onto standard output, and what went wrong onto standard error.
 use super::run::Run;
 use bench_names::reads::part;
-use libc::{STDERR_FILENO, STDOUT_FILENO};
 use text_buffer::text::{put, put_decimal};
+
+// The descriptors of standard output and standard error.
+const STDOUT: i32 = 1;
+
+const STDERR: i32 = 2;
 
 // Writes a page as far as it is filled. A page that is full may have lost something, and counts as not written.
 pub fn say(page: &[u8], end: usize, run: Run) -> Run {
@@ -10,16 +14,14 @@ pub fn say(page: &[u8], end: usize, run: Run) -> Run {
         return run;
     }
     let mut next = run;
-    next.written = run.written
-        & (end < page.len())
-        & io::write_all(STDOUT_FILENO, part(page, 0, end));
+    next.written = run.written & (end < page.len()) & io::write_all(STDOUT, part(page, 0, end));
     next
 }
 
 // A text as it stands.
 pub fn say_text(text: &[u8], run: Run) -> Run {
     let mut next = run;
-    next.written = run.written & io::write_all(STDOUT_FILENO, text);
+    next.written = run.written & io::write_all(STDOUT, text);
     next
 }
 
@@ -32,9 +34,9 @@ pub fn put_head(out: &mut [u8], at: usize, number: u64) -> usize {
 
 // Says on standard error that lines could not be read.
 fn complain_of_lines(wrong: u64) {
-    io::write_all(STDERR_FILENO, b"bench: lines that could not be read: ");
-    io::print_decimal(STDERR_FILENO, wrong);
-    io::write_all(STDERR_FILENO, b"\n");
+    io::write_all(STDERR, b"bench: lines that could not be read: ");
+    io::print_decimal(STDERR, wrong);
+    io::write_all(STDERR, b"\n");
 }
 
 // At the end: a line for each thing that went wrong, and none if nothing did.
@@ -43,12 +45,9 @@ pub fn end(run: Run) {
         complain_of_lines(run.wrong);
     }
     if !run.readable {
-        io::write_all(
-            STDERR_FILENO,
-            b"bench: the input could not be read to its end\n",
-        );
+        io::write_all(STDERR, b"bench: the input could not be read to its end\n");
     }
     if !run.written {
-        io::write_all(STDERR_FILENO, b"bench: the output could not be written\n");
+        io::write_all(STDERR, b"bench: the output could not be written\n");
     }
 }

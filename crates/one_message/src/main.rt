@@ -1,20 +1,16 @@
 // One message, wrong in every way at first, mended fault by fault: each line tells the drop that it is answered with, and why.
-use libc::STDOUT_FILENO;
+
+// The descriptor of standard output.
+const STDOUT: i32 = 1;
 
 fn say(code: u8) {
     match code {
-        3 => io::write_all(STDOUT_FILENO, b"dropped 3: not 48 bytes\n"),
-        4 => io::write_all(STDOUT_FILENO, b"dropped 4: device not 0x0A\n"),
-        5 => io::write_all(
-            STDOUT_FILENO,
-            b"dropped 5: top three type bits not 0, 1, 0\n",
-        ),
-        6 => io::write_all(STDOUT_FILENO, b"dropped 6: correlation id 0\n"),
-        7 => io::write_all(STDOUT_FILENO, b"dropped 7: bytes 40-43 wrong\n"),
-        _ => io::write_all(
-            STDOUT_FILENO,
-            b"taken: Get of class 2, instance 0, mask 8000\n",
-        ),
+        3 => io::write_all(STDOUT, b"dropped 3: not 48 bytes\n"),
+        4 => io::write_all(STDOUT, b"dropped 4: device not 0x0A\n"),
+        5 => io::write_all(STDOUT, b"dropped 5: top three type bits not 0, 1, 0\n"),
+        6 => io::write_all(STDOUT, b"dropped 6: correlation id 0\n"),
+        7 => io::write_all(STDOUT, b"dropped 7: bytes 40-43 wrong\n"),
+        _ => io::write_all(STDOUT, b"taken: Get of class 2, instance 0, mask 8000\n"),
     };
 }
 
