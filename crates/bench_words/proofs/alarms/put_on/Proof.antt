@@ -5,10 +5,10 @@ use borrow.Author.Rules.{rules}
 use Rattle.bench_words.proofs.alarms.put_on.Statement.{statement}
 use Rattle.bench_words.proofs.alarms.put_on.Tie as tie
 
-abbrev invariant-loop : tie.invariant-loop
+abbrev invariant-loop : tie.invariant-loop-n
 invariant-loop out₀ at class bitmap to₀ n₀ out to n = (n ≤ 224) × (length out ≡ length out₀)
 
-abbrev decreases-loop : tie.decreases-loop
+abbrev decreases-loop : tie.decreases-loop-n
 decreases-loop out₀ at class bitmap to₀ n₀ out to n = 224 - n
 
 pub put_on_spec : {M : Type 1} → statement M

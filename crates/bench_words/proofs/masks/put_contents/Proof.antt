@@ -5,10 +5,10 @@ use borrow.Author.Rules.{rules}
 use Rattle.bench_words.proofs.masks.put_contents.Statement.{statement}
 use Rattle.bench_words.proofs.masks.put_contents.Tie as tie
 
-abbrev invariant-loop : tie.invariant-loop
+abbrev invariant-loop : tie.invariant-loop-n
 invariant-loop out₀ at class mask values to₀ from₀ n₀ out to from n = (n ≤ 17) × (length out ≡ length out₀)
 
-abbrev decreases-loop : tie.decreases-loop
+abbrev decreases-loop : tie.decreases-loop-n
 decreases-loop out₀ at class mask values to₀ from₀ n₀ out to from n = 17 - n
 
 pub put_contents_spec : {M : Type 1} → statement M
