@@ -1,7 +1,8 @@
 // Standard input, from its first byte to its last.
 use bench_run::run::Run;
 use bench_terminal::lines::take_chunk;
-use libc::STDIN_FILENO;
+use std::io::Read;
+use std::rt::Stdin;
 
 // What one read brought.
 #[derive(Clone, Copy)]
@@ -23,33 +24,34 @@ fn seen(run: Run) -> Run {
 }
 
 // Reads once, and plays the lines that ended.
-fn play_some(line: &mut [u8], desk: &mut [u8], run: Run) -> Came {
+fn play_some(input: Stdin, line: &mut [u8], desk: &mut [u8], run: Run) -> Came {
     let mut chunk = [0u8; 65536];
-    let got = libc::read(STDIN_FILENO, &mut chunk);
-    if got < 0 {
-        return Came {
+    let mut source = input;
+    match source.read(&mut chunk) {
+        Err(_) => Came {
             more: false,
             run: unreadable(run),
-        };
-    }
-    if got == 0 {
-        return Came { more: false, run };
-    }
-    let n = io::count(got, &chunk);
-    let played = take_chunk(&chunk[..n], line, desk, seen(run));
-    Came {
-        more: played.written,
-        run: played,
+        },
+        Ok(n) => {
+            if n == 0 {
+                return Came { more: false, run };
+            }
+            let played = take_chunk(&chunk[..n], line, desk, seen(run));
+            Came {
+                more: played.written,
+                run: played,
+            }
+        }
     }
 }
 
 // A proved loop has to end, and nothing says that the input does. So the loop counts its turns down, from a number that no run
 // uses up. It also ends where the output can't be written any more.
-pub fn play(line: &mut [u8], desk: &mut [u8], run: Run) -> Run {
+pub fn play(input: Stdin, line: &mut [u8], desk: &mut [u8], run: Run) -> Run {
     let mut now = run;
     let mut turns = u64::MAX;
     while turns > 0 {
-        let came = play_some(line, desk, now);
+        let came = play_some(input, line, desk, now);
         now = came.run;
         if !came.more {
             break;

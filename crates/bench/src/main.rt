@@ -8,12 +8,12 @@ use bench_run::rooms::line_room;
 use bench_run::run::begin;
 use bench_terminal::lines::take_end;
 
-fn main() {
+fn main(rt: HostRuntime) {
     let mut room = line_room();
     let line: &mut [u8] = &mut room;
     let mut space = [0u8; 4304];
     let desk: &mut [u8] = &mut space;
-    let played = input::play(line, desk, begin());
+    let played = input::play(rt.stdin(), line, desk, begin());
     let ended = take_end(line, desk, played);
     if ended.seen | !ended.readable {
         end(ended);

@@ -4,11 +4,11 @@ use borrow.Author.Rules.{rules}
 use Rattle.bench.proofs.input.play.Statement.{statement}
 use Rattle.bench.proofs.input.play.Tie as tie
 
-abbrev invariant-loop : tie.invariant-loop
-invariant-loop line₀ desk₀ now₀ turns₀ line desk now turns = (length line ≡ length line₀) × (length desk ≡ length desk₀)
+abbrev invariant-loop : tie.invariant-loop-turns
+invariant-loop input line₀ desk₀ now₀ turns₀ line desk now turns = (length line ≡ length line₀) × (length desk ≡ length desk₀)
 
-abbrev decreases-loop : tie.decreases-loop
-decreases-loop line₀ desk₀ now₀ turns₀ line desk now turns = turns
+abbrev decreases-loop : tie.decreases-loop-turns
+decreases-loop input line₀ desk₀ now₀ turns₀ line desk now turns = turns
 
 pub play_spec : {M : Type 1} → statement M
 play_spec =
