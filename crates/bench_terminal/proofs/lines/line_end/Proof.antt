@@ -2,10 +2,10 @@ use Rattle.std.proofs.Common.{◌-◌, ◌≤◌, length, rules}
 use Rattle.bench_terminal.proofs.lines.line_end.Statement.{statement}
 use Rattle.bench_terminal.proofs.lines.line_end.Tie as tie
 
-abbrev invariant-loop : tie.invariant-loop
+abbrev invariant-loop : tie.invariant-loop-i
 invariant-loop chunk from i₀ i = (from ≤ i) × (i ≤ length chunk)
 
-abbrev decreases-loop : tie.decreases-loop
+abbrev decreases-loop : tie.decreases-loop-i
 decreases-loop chunk from i₀ i = length chunk - i
 
 pub line_end_spec : {M : Type 1} → statement M
