@@ -8,12 +8,11 @@ use Rattle.attribute_check.proofs.looked.Reads as looked_reads
 
 looked_requires : tie.Need-looked-requires
 looked_requires c κs =
-    let e = c.before.before.before.before in
-    let k = c.before.enum_told4.given in
-    (e.requires.0.looks k.0.0 k.1 c.if1.false, e.requires.1)
+    let e = c.before.before.before in
+    (e.requires.0.looks c.in-Pointer.field-0 c.in-Pointer.is c.if-only_if-eq0.false, e.requires.1)
 
-returns-5 : tie.Need-returns-5
-returns-5 c = looked_condition _ _ c.before.before.enum_told4.given.1 c.before.if1.false c.looked.ensures
+returns-5 : tie.Need-returns-else-only_if-eq0
+returns-5 c = looked_condition _ _ c.in-Pointer.is c.if-only_if-eq0.false c.looked.ensures
 
 pub condition_of_spec : {M : Type 1} → statement M
 condition_of_spec =

@@ -11,19 +11,19 @@ use Rattle.attribute_check.proofs.looked.Lts as lts
 use Rattle.attribute_tables.proofs.begins.begin_of.Reads as begin_of_reads
 use Rattle.octets.proofs.wide.Reads as wide_reads
 
-begin_of_requires : tie.Need-begin-of-requires
+begin_of_requires : tie.Need-begin_of-requires
 begin_of_requires c κs = let e = c.before in (e.requires.0.is_there, e.requires.0.kept)
 
 -- it is within the bytes that are lent
-room : (c : tie.After-begin-of) → let e = c.before.before in e.args.at + c.begin_of.result < length e.args.own.now
+room : (c : tie.After-begin_of) → let e = c.before.before in e.args.at + c.begin_of.result < length e.args.own.now
 room c =
     let e = c.before.before in
     looked_room (class_for e.args.product e.args.class) e.args.n e.args.own.now e.args.at e.requires.0 e.requires.1 c.begin_of.ensures
 
-add_wide : tie.Need-overflow-add-wide
+add_wide : tie.Need-overflow_add-at
 add_wide c = let z = room c in omega arith
 
-shared_slice_read_wide : tie.Need-shared-slice-read-wide
+shared_slice_read_wide : tie.Need-bounds-own-at
 shared_slice_read_wide c = room c.before
 
 returns : tie.Need-returns

@@ -8,14 +8,14 @@ use Rattle.attribute_check.proofs.value_in.Lts as lts
 use Rattle.octets.proofs.number_at.Reads as number_at_reads
 use Rattle.octets.proofs.wide.Reads as wide_reads
 
-returns : tie.Need-returns
-returns c = c.wide.ensures.0 ∙ one_byte c.before.before.before.before.args.v.now (search rules)
+returns : tie.Need-returns-then-v-eq1
+returns c = c.wide.ensures.0 ∙ one_byte c.args.v.now (search rules)
 
-returns-2 : tie.Need-returns-2
-returns-2 c = c.number_at.ensures ∙ two_bytes c.before.before.before.before.args.v.now (search rules)
+returns-2 : tie.Need-returns-then-v-eq2
+returns-2 c = c.number_at.ensures ∙ two_bytes c.args.v.now (search rules)
 
-returns-3 : tie.Need-returns-3
-returns-3 c = no_bytes c.before.before.before.args.v.now c.before.if1.false c.if2.false
+returns-3 : tie.Need-returns
+returns-3 c = no_bytes c.args.v.now c.if-v-eq1.false c.if-v-eq2.false
 
 pub value_in_spec : {M : Type 1} → statement M
 value_in_spec =

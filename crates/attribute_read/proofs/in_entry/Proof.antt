@@ -8,16 +8,16 @@ use Rattle.attribute_read.proofs.in_entry.Lts as lts
 use Rattle.attribute_tables.proofs.begins.begin_of.Reads as begin_of_reads
 use Rattle.class_tables.proofs.classes.inside.Reads as inside_reads
 
-add_result : tie.Need-overflow-add-result
+add_result : tie.Need-overflow_add-result
 add_result c =
     let s = c.before.before in
     let f = small_entry s.args.product s.args.class s.args.n s.requires.0 s.requires.1 in
-    let i = c.before.inside.ensures in
+    let i = c.inside.ensures in
     let b = c.begin_of.ensures in
     omega arith
 
 returns : tie.Need-returns
-returns c = rw (c.before.inside.ensures, c.begin_of.ensures)
+returns c = rw (c.inside.ensures, c.begin_of.ensures)
 
 pub in_entry_spec : {M : Type 1} → statement M
 in_entry_spec = tie.close (tie.spec (λ c κs. search rules) (λ c κs. search rules) add_result returns)

@@ -18,74 +18,74 @@ use Rattle.attribute_tables.proofs.readings.reading_of.Reads as reading_of_reads
 use Rattle.class_tables.proofs.classes.inside.Reads as inside_reads
 use Rattle.class_tables.proofs.classes.leader_of.Reads as leader_of_reads
 
-in_entry_requires : tie.Need-in-entry-requires
+in_entry_requires : tie.Need-in_entry-requires
 in_entry_requires c κs =
-    let at_reading = c.before.before.before in
-    let at_reading_of = at_reading.before.before in
+    let at_reading = c.before.before in
+    let at_reading_of = at_reading.before in
     let s = at_reading_of.before.before in
-    creator_kept s.args.product s.args.class s.args.n s.requires.1 (source_told _ at_reading_of.reading_of.ensures at_reading.reading.given.1 refl)
+    creator_kept s.args.product s.args.class s.args.n s.requires.1 (source_told _ at_reading_of.reading_of-reading.ensures at_reading.in-OfCreator.is refl)
     c.leader_of.ensures
 
-add_o : tie.Need-overflow-add-o
+add_o : tie.Need-overflow_add-o
 add_o c =
-    let at_reading = c.before.before.before.before in
-    let at_reading_of = at_reading.before.before in
+    let at_reading = c.before.before.before in
+    let at_reading_of = at_reading.before in
     let s = at_reading_of.before.before in
-    let f = creator_kept s.args.product s.args.class s.args.n s.requires.1 (source_told _ at_reading_of.reading_of.ensures at_reading.reading.given.1 refl)
-    c.before.leader_of.ensures in
-    let z = small_entry s.args.product c.before.leader_of.result at_reading.reading.given.0.0 f.0 f.1 in
+    let f = creator_kept s.args.product s.args.class s.args.n s.requires.1 (source_told _ at_reading_of.reading_of-reading.ensures at_reading.in-OfCreator.is refl)
+    c.leader_of.ensures in
+    let z = small_entry s.args.product c.leader_of.result at_reading.in-OfCreator.m f.0 f.1 in
     let w = s.requires.0.to_end in
     let i = inside_fits s.args.product s.args.class in
     let e = c.in_entry.ensures in
     omega arith
 
-in_entry_requires_2 : tie.Need-in-entry-requires-2
+in_entry_requires_2 : tie.Need-in_entry-o-requires
 in_entry_requires_2 c κs =
-    let at_reading_of = c.before.before.before in
+    let at_reading_of = c.before in
     let s = at_reading_of.before.before in
-    counted_kept s.args.product s.args.class s.args.n s.requires.1 (source_told _ at_reading_of.reading_of.ensures c.before.reading2.given.1 refl)
+    counted_kept s.args.product s.args.class s.args.n s.requires.1 (source_told _ at_reading_of.reading_of-reading.ensures c.in-CountOf.is refl)
 
 -- what has its own bytes is stored
-kept : (c : tie.After-enum-told) → let s = c.before.before.before.before in is_stored (attribute (class_for s.args.product s.args.class) s.args.n).source ≡ true
+kept : (c : tie.In-Own) → let s = c.before.before.before in is_stored (attribute (class_for s.args.product s.args.class) s.args.n).source ≡ true
 kept c =
-    let at_reading_of = c.before.before in
+    let at_reading_of = c.before in
     let s = at_reading_of.before.before in
-    stored_if_own (attribute (class_for s.args.product s.args.class) s.args.n).source at_reading_of.reading_of.ensures c.enum_told.given.1 refl
+    stored_if_own (attribute (class_for s.args.product s.args.class) s.args.n).source at_reading_of.reading_of-reading.ensures c.in-Own.is refl
 
-begin_of_requires : tie.Need-begin-of-requires
-begin_of_requires c κs = (c.before.before.before.before.requires.1, kept c)
+begin_of_requires : tie.Need-begin_of-requires
+begin_of_requires c κs = (c.requires.1, kept c)
 
-add_o_2 : tie.Need-overflow-add-o-2
+add_o_2 : tie.Need-overflow_add-o-in-Own
 add_o_2 c =
-    let s = c.before.before.before.before.before in
+    let s = c.before.before.before.before in
     let z = small_entry s.args.product s.args.class s.args.n s.requires.1 (kept c.before) in
     let w = s.requires.0.to_end in
     let e = c.begin_of.ensures in
     omega arith
 
-returns : tie.Need-returns
+returns : tie.Need-returns-in-OfCreator
 returns c =
     let at_inside = c.before.before in
-    let at_reading = at_inside.before.before in
-    let at_reading_of = at_reading.before.before in
+    let at_reading = at_inside.before in
+    let at_reading_of = at_reading.before in
     let s = at_reading_of.before.before in
-    creator_item (cat_of s.args.product) s.args.class s.args.at s.args.n at_reading_of.before.size_of.ensures
-    (source_told _ at_reading_of.reading_of.ensures at_reading.reading.given.1 refl)
-    at_inside.inside.ensures c.before.leader_of.ensures c.in_entry.ensures
+    creator_item (cat_of s.args.product) s.args.class s.args.at s.args.n at_reading_of.size_of-size.ensures
+    (source_told _ at_reading_of.reading_of-reading.ensures at_reading.in-OfCreator.is refl)
+    at_inside.inside.ensures c.leader_of.ensures c.in_entry.ensures
 
-returns-2 : tie.Need-returns-2
+returns-2 : tie.Need-returns-in-CountOf
 returns-2 c =
-    let at_reading2 = c.before.before in
-    let at_reading_of = at_reading2.before.before in
+    let at_reading2 = c.before in
+    let at_reading_of = at_reading2.before in
     let s = at_reading_of.before.before in
-    counted_item (cat_of s.args.product) s.args.class s.args.at s.args.n at_reading_of.before.size_of.ensures
-    (source_told _ at_reading_of.reading_of.ensures at_reading2.reading2.given.1 refl) c.in_entry2.ensures
+    counted_item (cat_of s.args.product) s.args.class s.args.at s.args.n at_reading_of.size_of-size.ensures
+    (source_told _ at_reading_of.reading_of-reading.ensures at_reading2.in-CountOf.is refl) c.in_entry-o.ensures
 
-returns-3 : tie.Need-returns-3
+returns-3 : tie.Need-returns-in-Own
 returns-3 c =
-    let at_size_of = c.before.before.before.before in
+    let at_size_of = c.before.before.before in
     let s = at_size_of.before in
-    stored_item (cat_of s.args.product) s.args.class s.args.at s.args.n at_size_of.size_of.ensures (kept c.before) c.begin_of.ensures
+    stored_item (cat_of s.args.product) s.args.class s.args.at s.args.n at_size_of.size_of-size.ensures (kept c.before) c.begin_of.ensures
 
 pub item_for_spec : {M : Type 1} → statement M
 item_for_spec =

@@ -14,45 +14,45 @@ use Rattle.attribute_read.proofs.naming.Reads as naming_reads
 use Rattle.attribute_read.proofs.put_count.Reads as put_count_reads
 use Rattle.table.proofs.attribute_part.Reads as attribute_part_reads
 
-attribute_part_requires : tie.Need-attribute-part-requires
-attribute_part_requires c κs = at_fits c.before.before.before.before.before.before.requires c.before.origin.given.1
+attribute_part_requires : tie.Need-attribute_part-part-requires
+attribute_part_requires c κs = at_fits c.requires c.in-At.is
 
-copy_in_requires : tie.Need-copy-in-requires
+copy_in_requires : tie.Need-copy_in-requires
 copy_in_requires c κs =
-    let s = c.before.before.before.before.before.before.before.before in
-    part_fits s.args.to s.args.x.size _ _ c.before.attribute_part.ensures s.requires.room_for_it
-
-naming_requires : tie.Need-naming-requires
-naming_requires c κs =
     let s = c.before.before.before.before.before.before in
-    (s.requires.shaped, count_fits s.requires c.before.origin2.given.1)
+    part_fits s.args.to s.args.x.size _ _ c.attribute_part-part.ensures s.requires.room_for_it
 
-put_count_requires : tie.Need-put-count-requires
+naming_requires : tie.Need-naming-count-requires
+naming_requires c κs =
+    let s = c.before.before.before.before in
+    (s.requires.shaped, count_fits s.requires c.in-Count.is)
+
+put_count_requires : tie.Need-put_count-requires
 put_count_requires c κs =
-    let s = c.before.before.before.before.before.before.before.before in
-    let w = c.before.before.before.origin2.given in
+    let s = c.before.before.before.before.before.before in
+    let w = c.origin-in-Count-1.given in
     let b = chosen s.args.which s.args.live.now s.args.frozen.now in
-    (rw c.before.naming.ensures (count_small w.0.0 w.0.1.0 s.args.number b s.requires.shaped), s.requires.sized, s.requires.room_for_it)
+    (rw c.naming-count.ensures (count_small w.0.0 w.0.1.0 s.args.number b s.requires.shaped), s.requires.sized, s.requires.room_for_it)
 
-returns : tie.Need-returns
+returns : tie.Need-returns-in-At
 returns c =
     let at_copy_in = c.before.before in
     let at_attribute_part = at_copy_in.before.before in
-    let at_origin = at_attribute_part.before.before in
-    let s = at_origin.before.before.before.before.before in
+    let at_origin = at_attribute_part.before in
+    let s = at_origin.before.before.before.before in
     let b = chosen s.args.which s.args.live.now s.args.frozen.now in
     at_copy_in.copy_in.ensures ∙
-    ap (λ (v : List ℕ). laid s.args.to v s.args.out.now) (at_attribute_part.attribute_part.ensures ∙ shown_at b s.args.number s.args.x at_origin.origin.given.1)
+    ap (λ (v : List ℕ). laid s.args.to v s.args.out.now) (at_attribute_part.attribute_part-part.ensures ∙ shown_at b s.args.number s.args.x at_origin.in-At.is)
 
-returns-2 : tie.Need-returns-2
+returns-2 : tie.Need-returns-in-Count
 returns-2 c =
     let at_put_count = c.before.before in
     let at_naming = at_put_count.before.before in
-    let at_origin2 = at_naming.before.before in
-    let s = at_origin2.before.before.before.before.before in
+    let at_origin2 = at_naming.before in
+    let s = at_origin2.before.before.before.before in
     let b = chosen s.args.which s.args.live.now s.args.frozen.now in
     at_put_count.put_count.ensures ∙
-    ap (λ (v : List ℕ). laid s.args.to v s.args.out.now) (shown_count b s.args.number s.args.x at_origin2.origin2.given.1 at_naming.naming.ensures)
+    ap (λ (v : List ℕ). laid s.args.to v s.args.out.now) (shown_count b s.args.number s.args.x at_origin2.in-Count.is at_naming.naming-count.ensures)
 
 pub put_spec : {M : Type 1} → statement M
 put_spec =

@@ -10,8 +10,8 @@ use Rattle.octets.proofs.zero.Reads as zero_reads
 returns : tie.Need-returns
 returns c =
     let s = c.before.before.before.before.before in
-    let z = c.before.before.zero in
-    count_written s.args.count s.args.size s.args.to _ s.args.out.now z.new.0 s.requires.0 s.requires.1 s.requires.2 refl z.ensures
+    let z = c.zero in
+    count_written s.args.count s.args.size s.args.to _ s.args.out.now z.new.s s.requires.0 s.requires.1 s.requires.2 refl z.ensures
 
 pub put_count_spec : {M : Type 1} → statement M
 put_count_spec =

@@ -4,7 +4,7 @@ use Rattle.place_runs.proofs.behind.Statement.{statement}
 use Rattle.place_runs.proofs.behind.Tie as tie
 
 returns : tie.Need-returns
-returns c = let a = c.before.args in let e = the_rest a.n a.r.now in (e, ap length e ∙ length-drop a.n a.r.now)
+returns c = let a = c.args in let e = the_rest a.n a.r.now in (e, ap length e ∙ length-drop a.n a.r.now)
 
 pub behind_spec : {M : Type 1} → statement M
 behind_spec = tie.close (tie.spec (λ c. search rules) (λ c. search rules) (λ c. search rules) returns)

@@ -5,8 +5,8 @@ use Rattle.place_runs.proofs.place_at.Tie as tie
 
 returns : tie.Need-returns
 returns c =
-    let i = c.before.args.i in
-    let b = c.before.args.b.now in
+    let i = c.args.i in
+    let b = c.args.b.now in
     let n : i * place_length + place_length - i * place_length ≡ place_length = omega arith in
     rw n (refl, length-take-le place_length (drop (i * place_length) b) (simp length-drop (omega arith)))
 

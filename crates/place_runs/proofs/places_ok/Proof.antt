@@ -8,47 +8,47 @@ use Rattle.place_runs.proofs.Created.{places_in_runs}
 use Rattle.place_runs.proofs.places_ok.Statement.{statement}
 use Rattle.place_runs.proofs.places_ok.Tie as tie
 
-returns : tie.Need-returns
+returns : tie.Need-returns-in_default
 unfolding in_runs
 returns c =
-    let start = c.before.before.before in
-    let a = start.before.args in
-    let known = known_bytes a.b.now (λ i. (start.shared_slice_known.given i).fits) in
-    sym (places_in_runs a.product a.b.now known a.n ∙ rw (sym c.before.before.profiles.ensures ∙ c.enum_told.given.1) refl)
+    let start = c.before.before in
+    let a = start.args in
+    let known = known_bytes a.b.now (λ i. (start.shared_slice_known-1.given i).fits) in
+    sym (places_in_runs a.product a.b.now known a.n ∙ rw (sym c.profiles.ensures ∙ c.in_default.is) refl)
 
 ports_requires : tie.Need-ports-requires
 ports_requires c κs =
-    let first = c.before.before.before in
+    let first = c.before in
     let start = first.before in
-    let a = start.before.args in
-    let known = known_bytes a.b.now (λ i. (start.shared_slice_known.given i).fits) in
+    let a = start.args in
+    let known = known_bytes a.b.now (λ i. (start.shared_slice_known-1.given i).fits) in
     record {
-      begins = run_within (cat_of a.product) a.b.now known a.n 45 _ 0 (key 45 0) _ (omega arith) (sym first.profiles.ensures ∙ c.before.to_ports.given.1);
+      begins = run_within (cat_of a.product) a.b.now known a.n 45 _ 0 (key 45 0) _ (omega arith) (sym first.profiles.ensures ∙ c.in-Ends.is);
       few = search rules;
       long = search rules;
     }
 
-returns-2 : tie.Need-returns-2
+returns-2 : tie.Need-returns-in_default-ports
 unfolding in_runs
 returns-2 c =
-    let second = c.before.before in
-    let first = second.before.before.before.before in
+    let second = c.before in
+    let first = second.before.before in
     let start = first.before in
-    let a = start.before.args in
-    let known = known_bytes a.b.now (λ i. (start.shared_slice_known.given i).fits) in
+    let a = start.args in
+    let known = known_bytes a.b.now (λ i. (start.shared_slice_known-1.given i).fits) in
     sym (places_in_runs a.product a.b.now known a.n
-    ∙ rw (sym first.profiles.ensures ∙ second.before.before.to_ports.given.1, sym second.ports.ensures ∙ c.enum_told2.given.1) refl)
+    ∙ rw (sym first.profiles.ensures ∙ second.in-Ends.is, sym second.ports.ensures ∙ c.in_default-ports.is) refl)
 
-returns-3 : tie.Need-returns-3
+returns-3 : tie.Need-returns
 unfolding in_runs ◌and◌
 returns-3 c =
-    let second = c.before.before.before.before in
-    let first = second.before.before.before.before in
+    let second = c.before.before in
+    let first = second.before.before in
     let start = first.before in
-    let a = start.before.args in
-    let known = known_bytes a.b.now (λ i. (start.shared_slice_known.given i).fits) in
+    let a = start.args in
+    let known = known_bytes a.b.now (λ i. (start.shared_slice_known-1.given i).fits) in
     rw c.zeros_from.ensures (sym (places_in_runs a.product a.b.now known a.n
-    ∙ rw (sym first.profiles.ensures ∙ second.before.before.to_ports.given.1, sym second.ports.ensures ∙ c.before.before.end.given.1) refl))
+    ∙ rw (sym first.profiles.ensures ∙ second.in-Ends.is, sym second.ports.ensures ∙ c.in-Ends-ports.is) refl))
 
 pub places_ok_spec : {M : Type 1} → statement M
 places_ok_spec =

@@ -1,4 +1,5 @@
-use Rattle.std.proofs.Common.{◌≡◌, ◌-◌, ◌≤◌, true, sym, refl, ◌∙◌, arith, rules}
+use mathlib.Core.Bool.{not}
+use Rattle.std.proofs.Common.{◌≡◌, ◌-◌, ◌≤◌, true, sym, refl, ap, ◌∙◌, arith, rules}
 use Rattle.rules.specs.Catalogue.{key}
 use Rattle.rules.proofs.Laws.{true_and}
 use Rattle.rules.proofs.Conjunctions.{and_end}
@@ -8,64 +9,64 @@ use Rattle.place_runs.proofs.Turns.{key_below, run_done, run_over, run_bad, run_
 use Rattle.place_runs.proofs.profiles.Statement.{statement}
 use Rattle.place_runs.proofs.profiles.Tie as tie
 
-abbrev invariant-loop : tie.invariant-loop
+abbrev invariant-loop : tie.invariant-loop-i
 invariant-loop product b from n low₀ i₀ low i =
     (from ≤ i) × (i ≤ n) × (low ≤ key 46 0)
     × (run_end (cat_of product) 45 b (n - i) i low ≡ run_end (cat_of product) 45 b (n - from) from (key 45 0))
 
-abbrev decreases-loop : tie.decreases-loop
+abbrev decreases-loop : tie.decreases-loop-i
 decreases-loop product b from n low₀ i₀ low i = n - i
 
-loop-holds : tie.Need-loop-init invariant-loop decreases-loop
+loop-holds : tie.Need-loop-i-init invariant-loop decreases-loop
 loop-holds c = (search rules, search rules, search rules, refl)
 
-returns : tie.Need-returns invariant-loop decreases-loop
+returns : tie.Need-returns-then-not-in_run invariant-loop decreases-loop
 returns c =
     let read = c.before.before in
-    let placed = read.before.place_at in
+    let placed = read.place_at-r in
     let l = read.before.before.before in
-    let a = l.before.before.args in
-    run_over (cat_of a.product) 45 a.b.now a.n l.loop.i l.loop.low true _ l.loop.invariant.3 (omega arith) placed.result.now placed.ensures.0
-    read.key_at.result read.key_at.ensures c.before.in_run.result c.before.in_run.ensures c.if1.true
+    let a = l.args in
+    run_over (cat_of a.product) 45 a.b.now a.n l.loop-i.i l.loop-i.low true _ l.loop-i.invariant.3 (omega arith) placed.result.now placed.ensures.0
+    read.key_at-k.result read.key_at-k.ensures c.in_run.result c.in_run.ensures (ap not c.if-not-in_run.true)
 
-returns-2 : tie.Need-returns-2 invariant-loop decreases-loop
+returns-2 : tie.Need-returns-then-not-profile_ok invariant-loop decreases-loop
 returns-2 c =
     let tried = c.before.before.before in
     let read = tried.before.before in
-    let placed = read.before.place_at in
+    let placed = read.place_at-r in
     let l = read.before.before.before in
-    let a = l.before.before.args in
-    run_bad (cat_of a.product) 45 a.b.now a.n l.loop.i l.loop.low true _ l.loop.invariant.3 (omega arith) placed.result.now placed.ensures.0
-    read.key_at.result read.key_at.ensures tried.before.in_run.result tried.before.in_run.ensures tried.if1.false c.before.before.behind.result.now
-    c.before.before.behind.ensures.0 c.before.profile_ok.result true (sym (and_end _ ∙ c.before.profile_ok.ensures)) c.if2.true
+    let a = l.args in
+    run_bad (cat_of a.product) 45 a.b.now a.n l.loop-i.i l.loop-i.low true _ l.loop-i.invariant.3 (omega arith) placed.result.now placed.ensures.0
+    read.key_at-k.result read.key_at-k.ensures tried.in_run.result tried.in_run.ensures (ap not tried.if-not-in_run.false) c.behind.result.now
+    c.behind.ensures.0 c.profile_ok.result true (sym (and_end _ ∙ c.profile_ok.ensures)) (ap not c.if-not-profile_ok.true)
 
-add_low : tie.Need-overflow-add-low invariant-loop decreases-loop
+add_low : tie.Need-overflow_add-low invariant-loop decreases-loop
 add_low c =
     let tried = c.before.before.before in
     let read = tried.before.before in
-    let low = read.before.before.before.loop.low in
-    record { fits = omega (arith, key_below (low) read.key_at.result (key 46 0) tried.before.in_run.result tried.before.in_run.ensures tried.if1.false) }
+    let low = read.loop-i.low in
+    record { fits = omega (arith, key_below (low) read.key_at-k.result (key 46 0) tried.in_run.result tried.in_run.ensures (ap not tried.if-not-in_run.false)) }
 
-loop-again : tie.Need-loop-preserved invariant-loop decreases-loop
+loop-again : tie.Need-loop-i-preserved invariant-loop decreases-loop
 loop-again c =
     let tried = c.before.before.before in
     let read = tried.before.before in
-    let placed = read.before.place_at in
+    let placed = read.place_at-r in
     let l = read.before.before.before in
-    let a = l.before.before.args in (
+    let a = l.args in (
       omega arith,
       omega arith,
-      omega (arith, key_below l.loop.low read.key_at.result (key 46 0) tried.before.in_run.result tried.before.in_run.ensures tried.if1.false),
-      rw (true_and true) at (run_on (cat_of a.product) 45 a.b.now a.n l.loop.i l.loop.low true _ l.loop.invariant.3 (omega arith) placed.result.now placed.ensures.0
-          read.key_at.result read.key_at.ensures tried.before.in_run.result tried.before.in_run.ensures tried.if1.false c.before.before.behind.result.now
-          c.before.before.behind.ensures.0 c.before.profile_ok.result true (sym (and_end _ ∙ c.before.profile_ok.ensures)) c.if2.false),
+      omega (arith, key_below l.loop-i.low read.key_at-k.result (key 46 0) tried.in_run.result tried.in_run.ensures (ap not tried.if-not-in_run.false)),
+      rw (true_and true) at (run_on (cat_of a.product) 45 a.b.now a.n l.loop-i.i l.loop-i.low true _ l.loop-i.invariant.3 (omega arith) placed.result.now placed.ensures.0
+          read.key_at-k.result read.key_at-k.ensures tried.in_run.result tried.in_run.ensures (ap not tried.if-not-in_run.false) c.behind.result.now
+          c.behind.ensures.0 c.profile_ok.result true (sym (and_end _ ∙ c.profile_ok.ensures)) (ap not c.if-not-profile_ok.false)),
     )
 
-returns-3 : tie.Need-returns-3 invariant-loop decreases-loop
+returns-3 : tie.Need-returns invariant-loop decreases-loop
 returns-3 c =
     let l = c.before in
-    let a = l.before.before.args in
-    run_done (cat_of a.product) 45 a.b.now a.n l.loop.i l.loop.low true _ l.loop.invariant.3 (omega arith)
+    let a = l.args in
+    run_done (cat_of a.product) 45 a.b.now a.n l.loop-i.i l.loop-i.low true _ l.loop-i.invariant.3 (omega arith)
 
 pub profiles_spec : {M : Type 1} → statement M
 profiles_spec =

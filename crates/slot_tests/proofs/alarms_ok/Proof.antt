@@ -8,23 +8,23 @@ use borrow.Author.Rules.{rules}
 use Rattle.slot_tests.proofs.alarms_ok.Statement.{statement}
 use Rattle.slot_tests.proofs.alarms_ok.Tie as tie
 
-returns : tie.Need-returns
+returns : tie.Need-returns-in-Small
 returns c =
-    let start = c.before.before.before.before in
-    rw (c.before.before.enum_told.given.1, c.zeros_from.ensures)
-    (sym (unfold ◌and◌ in one_alarm start.before.args.b.now (search rules) (known_bytes start.before.args.b.now (λ i. (start.shared_slice_known.given i).fits)) Small small_keys))
+    let start = c.before.before.before in
+    rw (c.in-Small.is, c.zeros_from.ensures)
+    (sym (unfold ◌and◌ in one_alarm start.args.b.now (search rules) (known_bytes start.args.b.now (λ i. (start.shared_slice_known-1.given i).fits)) Small small_keys))
 
-returns-2 : tie.Need-returns-2
+returns-2 : tie.Need-returns-in-Large
 returns-2 c =
-    let start = c.before.before.before.before.before.before in
-    rw c.before.before.before.before.enum_told2.given.1
-    (sym (unfold ◌and◌ in large_alarms start.before.args.b.now (search rules) (known_bytes start.before.args.b.now (λ i. (start.shared_slice_known.given i).fits))))
+    let start = c.before.before.before.before.before in
+    rw c.in-Large.is
+    (sym (unfold ◌and◌ in large_alarms start.args.b.now (search rules) (known_bytes start.args.b.now (λ i. (start.shared_slice_known-1.given i).fits))))
 
-returns-3 : tie.Need-returns-3
+returns-3 : tie.Need-returns-in-Meter
 returns-3 c =
-    let start = c.before.before.before.before in
-    rw (c.before.before.enum_told3.given.1, c.zeros_from2.ensures)
-    (sym (unfold ◌and◌ in one_alarm start.before.args.b.now (search rules) (known_bytes start.before.args.b.now (λ i. (start.shared_slice_known.given i).fits)) Meter meter_keys))
+    let start = c.before.before.before in
+    rw (c.in-Meter.is, c.zeros_from-in-Meter.ensures)
+    (sym (unfold ◌and◌ in one_alarm start.args.b.now (search rules) (known_bytes start.args.b.now (λ i. (start.shared_slice_known-1.given i).fits)) Meter meter_keys))
 
 pub alarms_ok_spec : {M : Type 1} → statement M
 alarms_ok_spec =

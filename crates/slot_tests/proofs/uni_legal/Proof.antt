@@ -5,14 +5,14 @@ use borrow.Author.Rules.{rules}
 use Rattle.slot_tests.proofs.uni_legal.Statement.{statement}
 use Rattle.slot_tests.proofs.uni_legal.Tie as tie
 
-returns : tie.Need-returns
-returns c = rw c.enum_told.given.1 (unfold computing_tables computing_tests in refl)
+returns : tie.Need-returns-in-Small
+returns c = rw c.in-Small.is (unfold computing_tables computing_tests in refl)
 
-returns-2 : tie.Need-returns-2
-returns-2 c = rw c.before.before.before.enum_told2.given.1 (unfold computing_tables computing_tests in refl)
+returns-2 : tie.Need-returns-in-Large
+returns-2 c = rw c.in-Large.is (unfold computing_tables computing_tests in refl)
 
-returns-3 : tie.Need-returns-3
-returns-3 c = rw c.before.before.enum_told3.given.1 (unfold computing_tables computing_tests in refl)
+returns-3 : tie.Need-returns-in-Meter
+returns-3 c = rw c.in-Meter.is (unfold computing_tables computing_tests in refl)
 
 pub uni_legal_spec : {M : Type 1} → statement M
 uni_legal_spec =

@@ -4,7 +4,7 @@ use borrow.Author.Rules.{rules}
 use Rattle.upload_sections.proofs.class_total.Statement.{statement}
 use Rattle.upload_sections.proofs.class_total.Tie as tie
 
-mul_result : tie.Need-overflow-mul-result
+mul_result : tie.Need-overflow_mul-result
 mul_result c =
     let s = c.before.before in
     let a = s.args in

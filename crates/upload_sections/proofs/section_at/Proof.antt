@@ -14,62 +14,62 @@ use Rattle.upload_sections.proofs.section_at.Statement.{statement}
 use Rattle.upload_sections.proofs.section_at.Tie as tie
 
 -- the one that is so many on from the j-th class is the answer
-abbrev invariant-loop : tie.invariant-loop
+abbrev invariant-loop : tie.invariant-loop-j
 invariant-loop b pr n left₀ j₀ left j = (j ≤ most_classes) × (nth (sections_on pr b j) left ≡ nth (sections_in (cat_of pr) (keys_in b)) n)
 
-abbrev decreases-loop : tie.decreases-loop
+abbrev decreases-loop : tie.decreases-loop-j
 decreases-loop b pr n left₀ j₀ left j = most_classes - j
 
-loop-holds : tie.Need-loop-init invariant-loop decreases-loop
+loop-holds : tie.Need-loop-j-init invariant-loop decreases-loop
 loop-holds c =
-    let a = c.before.args in
+    let a = c.args in
     (omega arith, ap (λ (k : List Section). nth k a.n) (all_sections a.product a.b.now))
 
-returns : tie.Need-returns invariant-loop decreases-loop
+returns : tie.Need-returns-then-class-eq0 invariant-loop decreases-loop
 returns c =
     let l = c.before.before.before in
-    let a = l.before.before.args in
-    let none = no_more_classes a.product a.b.now l.loop.j c.before.class_at.ensures c.if1.true in
-    record { is = in_no_class a.product a.b.now l.loop.j l.loop.left l.loop.invariant.1 none; carries = tt }
+    let a = l.args in
+    let none = no_more_classes a.product a.b.now l.loop-j.j c.class_at-class.ensures c.if-class-eq0.true in
+    record { is = in_no_class a.product a.b.now l.loop-j.j l.loop-j.left l.loop-j.invariant.1 none; carries = tt }
 
-class_section_requires : tie.Need-class-section-requires invariant-loop decreases-loop
+class_section_requires : tie.Need-class_section-requires invariant-loop decreases-loop
 class_section_requires c κs =
-    let total = c.before.class_total.ensures in
-    (c.before.before.before.before.before.before.before.before.requires, c.before.before.section_count.ensures, omega arith)
+    let total = c.class_total-some.ensures in
+    (c.requires, c.section_count-each.ensures, omega arith)
 
-returns-2 : tie.Need-returns-2 invariant-loop decreases-loop
+returns-2 : tie.Need-returns-then-left-some invariant-loop decreases-loop
 returns-2 c =
     let at_class = c.before.before.before.before.before in
     let l = at_class.before.before in
-    let a = l.before.before.args in
+    let a = l.args in
     let r = c.class_section.ensures in
-    let there = another_class a.product a.b.now l.loop.j at_class.class_at.ensures c.before.before.before.before.if1.false in
+    let there = another_class a.product a.b.now l.loop-j.j at_class.class_at-class.ensures c.if-class-eq0.false in
     record {
-      is = in_this_class a.product a.b.now l.loop.j at_class.class_at.ensures c.before.before.class_total.ensures there
-          l.loop.left l.loop.invariant.1 c.before.if2.true r.is;
+      is = in_this_class a.product a.b.now l.loop-j.j at_class.class_at-class.ensures c.class_total-some.ensures there
+          l.loop-j.left l.loop-j.invariant.1 c.if-left-some.true r.is;
       carries = r.carries;
     }
 
-loop-less : tie.Need-loop-smaller invariant-loop decreases-loop
+loop-less : tie.Need-loop-j-smaller invariant-loop decreases-loop
 loop-less c = omega arith
 
-loop-again : tie.Need-loop-preserved invariant-loop decreases-loop
+loop-again : tie.Need-loop-j-preserved invariant-loop decreases-loop
 loop-again c =
     let at_class = c.before.before.before.before in
     let l = at_class.before.before in
-    let a = l.before.before.args in
-    let there = another_class a.product a.b.now l.loop.j at_class.class_at.ensures c.before.before.before.if1.false in (
+    let a = l.args in
+    let there = another_class a.product a.b.now l.loop-j.j at_class.class_at-class.ensures c.if-class-eq0.false in (
       omega arith,
-      in_a_later_class a.product a.b.now l.loop.j at_class.class_at.ensures c.before.class_total.ensures there
-          l.loop.left l.loop.invariant.1 (omega arith),
+      in_a_later_class a.product a.b.now l.loop-j.j at_class.class_at-class.ensures c.class_total-some.ensures there
+          l.loop-j.left l.loop-j.invariant.1 (omega arith),
     )
 
-returns-3 : tie.Need-returns-3 invariant-loop decreases-loop
+returns-3 : tie.Need-returns invariant-loop decreases-loop
 returns-3 c =
     let l = c.before in
-    let a = l.before.before.args in
+    let a = l.args in
     let few = few_classes a.product in
-    record { is = in_no_class a.product a.b.now l.loop.j l.loop.left l.loop.invariant.1 (omega arith); carries = tt }
+    record { is = in_no_class a.product a.b.now l.loop-j.j l.loop-j.left l.loop-j.invariant.1 (omega arith); carries = tt }
 
 pub section_at_spec : {M : Type 1} → statement M
 section_at_spec =

@@ -5,17 +5,17 @@ use Rattle.upload_sections.proofs.EntryLaws.{begins_in_slot, begins_in_place}
 use Rattle.upload_sections.proofs.entries.begin_in.Statement.{statement}
 use Rattle.upload_sections.proofs.entries.begin_in.Tie as tie
 
-returns : tie.Need-returns
-returns c = begins_in_slot _ _ c.before.slots.ensures c.if1.true
+returns : tie.Need-returns-then-i-n
+returns c = begins_in_slot _ _ c.slots-n.ensures c.if-i-n.true
 
-add_result_4 : tie.Need-overflow-add-result-4
+add_result_4 : tie.Need-overflow_add-result-4
 add_result_4 c =
-    let a = c.before.before.before.args in
+    let a = c.args in
     let z = inside_fits a.product a.class in
     omega arith
 
-returns-2 : tie.Need-returns-2
-returns-2 c = begins_in_place _ _ c.before.before.slots.ensures (omega arith) c.inside.ensures
+returns-2 : tie.Need-returns
+returns-2 c = begins_in_place _ _ c.slots-n.ensures (omega arith) c.inside.ensures
 
 pub begin_in_spec : {M : Type 1} → statement M
 begin_in_spec =

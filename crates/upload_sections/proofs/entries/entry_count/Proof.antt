@@ -5,15 +5,15 @@ use Rattle.upload_sections.proofs.EntryLaws.{entries_length}
 use Rattle.upload_sections.proofs.entries.entry_count.Statement.{statement}
 use Rattle.upload_sections.proofs.entries.entry_count.Tie as tie
 
-add_result : tie.Need-overflow-add-result
+add_result : tie.Need-overflow_add-result
 add_result c =
-    let f = few_slots c.before.before.before.args.product in
-    let g = c.before.before.before.requires.few in
+    let f = few_slots c.args.product in
+    let g = c.requires.few in
     omega arith
 
 returns : tie.Need-returns
 returns c =
-    let a = c.before.before.before.args in
+    let a = c.args in
     let z = entries_length a.product a.b.now in
     omega arith
 
