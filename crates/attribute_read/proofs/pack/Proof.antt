@@ -1,3 +1,7 @@
+use mir.Syntax.{w64}
+use mir.Val.{Fits}
+use mathlib.Core.Path.{◌≡◌}
+use Prim.Native.Nat.{ℕ, ◌≤◌, ◌<◌, ◌^◌}
 use native.Mathlib.Omega.{arith}
 use borrow.Author.Rules.{rules}
 use Rattle.bits.proofs.MaskWalk.{bit_in, fewer_left}
@@ -27,16 +31,15 @@ item_for_requires c κs = (its_entry _ c.loop-left.invariant, next_there _ c.loo
 put_requires : tie.Need-put-requires invariant-loop decreases-loop
 put_requires c κs = next_fits _ c.loop-left.invariant c.first_named-n.ensures c.item_for-x.ensures
 
+-- what is no more than a list's length, which is a usize, fits a usize
+fits_in : (n l m : ℕ) → n ≤ l → l ≡ m → m < 2 ^ 64 → Fits w64 n
+fits_in n l m h e small = omega arith
+
 add_to : tie.Need-overflow_add-to invariant-loop decreases-loop
-add_to c =
-    let at_item_for = c.before.before.before.before in
-    let at_first_named = at_item_for.before in
-    let at_loop = at_first_named.before.before in
-    let r = (next_fits _ at_loop.loop-left.invariant at_first_named.first_named-n.ensures at_item_for.item_for-x.ensures).room_for_it in
-    let l = length_packed _ at_loop.loop-left.invariant in
-    -- that the length of `out` is a usize
-    let sized = at_loop.well_formed in
-    omega arith
+add_to c = fits_in _ _ _
+    (next_fits _ c.loop-left.invariant c.first_named-n.ensures c.item_for-x.ensures).room_for_it
+    (length_packed _ c.loop-left.invariant)
+    c.well_formed.1.1.1.1.1.0.0
 
 sub_left : tie.Need-overflow_sub-left invariant-loop decreases-loop
 sub_left c = bit_in c.first_named-n.ensures c.bit_of-left.ensures

@@ -30,9 +30,8 @@ naming_requires c κs =
 put_count_requires : tie.Need-put_count-requires
 put_count_requires c κs =
     let s = c.before.before.before.before.before.before in
-    let w = c.origin-in-Count-1.given in
     let b = chosen s.args.which s.args.live.now s.args.frozen.now in
-    (rw c.naming-count.ensures (count_small w.0.0 w.0.1.0 s.args.number b s.requires.shaped), s.requires.sized, s.requires.room_for_it)
+    (rw c.naming-count.ensures (count_small c.in-Count.class c.in-Count.o s.args.number b s.requires.shaped), s.requires.sized, s.requires.room_for_it)
 
 returns : tie.Need-returns-in-At
 returns c =

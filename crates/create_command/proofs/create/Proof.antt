@@ -21,48 +21,48 @@ use Rattle.octets.proofs.key_of.Reads as key_of_reads
 use Rattle.table.proofs.has_key.Reads as has_key_reads
 use Rattle.table.proofs.rank_of.Reads as rank_of_reads
 
-rank_of_requires : tie.Need-rank-of-requires
+rank_of_requires : tie.Need-rank_of-j-requires
 rank_of_requires c κs =
-    let f = c.before.before.before.before.before.before in
+    let f = c.before in
     live_shaped f.args.product f.args.store.now f.requires.0
 
-has_key_requires : tie.Need-has-key-requires
+has_key_requires : tie.Need-has_key-requires
 has_key_requires c κs =
     let p = c.before.before in
-    let f = p.before.before.before.before.before.before.before in
-    (live_shaped f.args.product f.args.store.now f.requires.0, p.rank_of.ensures)
+    let f = p.before.before in
+    (live_shaped f.args.product f.args.store.now f.requires.0, p.rank_of-j.ensures)
 
-slice_write_out : tie.Need-slice-write-out
+slice_write_out : tie.Need-bounds-out-0
 slice_write_out c =
-    let f = c.before.before.before.before.before.before.before.before.before.before.before in
+    let f = c.before.before in
     let n : length f.args.out.now ≡ 32 = ap length f.requires.3 in
     search rules
 
 -- the keys of the live table
-abbrev its_keys : tie.After-has-key → List ℕ
+abbrev its_keys : tie.After-has_key → List ℕ
 its_keys c = keys_in (part live_at block_length c.before.before.before.before.before.before.before.before.before.before.args.store.now)
 
 -- whether one is the instance's, as the code found it
-its_place : (c : tie.After-has-key)
-    → c.has_key_lem.result ≡ is_some (position (key c.before.before.before.before.before.before.before.before.before.before.args.class
-    c.before.before.before.before.before.before.before.before.before.before.args.number) (its_keys c))
-its_place c = c.has_key_lem.ensures ∙ ap (λ k. is_some (position k (its_keys c))) c.before.before.before.before.before.before.key_of.ensures
+its_place : (c : tie.After-has_key)
+    → c.has_key.result ≡ is_some (position (key c.before.before.args.class
+    c.before.before.args.number) (its_keys c))
+its_place c = c.has_key.ensures ∙ ap (λ k. is_some (position k (its_keys c))) c.key_of-key.ensures
 
-returns : tie.Need-returns
+returns : tie.Need-returns-then-has_key
 returns c =
     let p = c.before in
-    let f = p.before.before.before.before.before.before.before.before.before.before in
+    let f = p.before.before in
     let a = f.args in
     exists a.product a.store.now f.requires.0 a.class a.number f.ranges.number.fits f.requires.1 a.v.now f.requires.2
-    (its_place p) c.if1.true a.out.now f.requires.3
+    (its_place p) c.if-has_key.true a.out.now f.requires.3
 
-create_absent_requires : tie.Need-create-absent-requires
+create_absent_requires : tie.Need-create_absent-requires
 create_absent_requires c κs =
     let p = c.before.before.before in
-    let f = p.before.before.before.before.before.before.before.before.before.before in
+    let f = p.before.before in
     let a = f.args in
-    let absent = held_is a.product a.store.now f.requires.0 a.class a.number f.ranges.number.fits f.requires.1 a.v.now f.requires.2 (its_place p) ∙ c.before.before.if1.false in
-    let put = p.before.before.before.rank_of.ensures ∙ ap (λ k. rank k (its_keys p)) p.before.before.before.before.before.before.key_of.ensures in
+    let absent = held_is a.product a.store.now f.requires.0 a.class a.number f.ranges.number.fits f.requires.1 a.v.now f.requires.2 (its_place p) ∙ c.if-has_key.false in
+    let put = p.rank_of-j.ensures ∙ ap (λ k. rank k (its_keys p)) p.key_of-key.ensures in
     (f.requires.0, f.requires.1, f.requires.2, f.requires.3, absent, put)
 
 pub create_spec : {M : Type 1} → statement M

@@ -21,85 +21,85 @@ use Rattle.rules.specs.Catalogue.{key}
 use Rattle.octets.proofs.Parted.{part}
 use Rattle.store.specs.Layout.{live_at, block_length}
 
-bad_in_create_requires : tie.Need-bad-in-create-requires
+bad_in_create_requires : tie.Need-bad_in_create-bad-requires
 bad_in_create_requires c κs =
-    let f = c.before.before.before.before.before.before.before.before.before in
-    (live_shaped f.args.product f.args.store.now f.requires.0, f.requires.1, f.requires.2, ap length c.before.before.before.before.new_place.ensures ∙ place_has_its_length _)
+    let f = c.before in
+    (live_shaped f.args.product f.args.store.now f.requires.0, f.requires.1, f.requires.2, ap length c.new_place.ensures ∙ place_has_its_length _)
 
-slice_write_out : tie.Need-slice-write-out
+slice_write_out : tie.Need-bounds-out-0
 slice_write_out c =
-    let f = c.before.before.before.before.before.before.before.before.before.before.before in
+    let f = c.before in
     let n : length f.args.out.now ≡ 32 = ap length f.requires.3 in
     search rules
 
-put_number_requires : tie.Need-put-number-requires
+put_number_requires : tie.Need-put_number-requires
 put_number_requires c κs =
-    let f = c.before.before.before.before.before.before.before.before.before.before.before.before in
+    let f = c.before in
     let n : length (set f.args.out.now 0 bad_parameter) ≡ 32 = ap (λ o. length (set o 0 bad_parameter)) f.requires.3 in
     omega arith
 
-same_length_2 : tie.Need-same-length-2
+same_length_2 : tie.Need-shape_of-out-then-bad-ne0
 same_length_2 c =
     let j = c.before.before.before.before.before in
-    let f = j.before.before.before.before.before.before.before.before.before.before in
-    let n = reply_long f.args.out.now j.bad_in_create.result f.requires.3 c.before.before.put_number.ensures in
+    let f = j.before in
+    let n = reply_long f.args.out.now j.bad_in_create-bad.result f.requires.3 c.put_number.ensures in
     search rules
 
-returns : tie.Need-returns
+returns : tie.Need-returns-then-bad-ne0
 returns c =
     let j = c.before.before.before.before.before in
     let p = j.before.before.before.before.before in
-    let f = p.before.before.before.before.before in
+    let f = p.before in
     let a = f.args in
-    rw c.before.before.put_number.ensures
+    rw c.put_number.ensures
     (refused_bad a.product a.store.now f.requires.0 a.class a.number f.ranges.number.fits f.requires.1 a.v.now f.requires.2 f.requires.4
-    j.bad_in_create.result p.new_place.ensures j.bad_in_create.ensures c.before.before.before.before.if1.true a.out.now f.requires.3)
+    j.bad_in_create-bad.result p.new_place.ensures j.bad_in_create-bad.ensures c.if-bad-ne0.true a.out.now f.requires.3)
 
-slice_write_out_2 : tie.Need-slice-write-out-2
+slice_write_out_2 : tie.Need-bounds-out-0-then-in_use-ge-PLACE_COUNT
 slice_write_out_2 c =
-    let f = c.before.before.before.before.before.before.before.before.before.before.before.before.before.before.before in
+    let f = c.before.before in
     let n : length f.args.out.now ≡ 32 = ap length f.requires.3 in
     search rules
 
-returns-2 : tie.Need-returns-2
+returns-2 : tie.Need-returns-then-in_use-ge-PLACE_COUNT
 returns-2 c =
     let j = c.before.before.before.before.before in
     let p = j.before.before.before.before.before in
-    let f = p.before.before.before.before.before in
+    let f = p.before.before in
     let a = f.args in
-    let n = c.before.in_use.ensures in
-    let m = c.if2.true in
+    let n = c.in_use.ensures in
+    let m = c.if-in_use-ge-PLACE_COUNT.true in
     refused_full a.product a.store.now f.requires.0 a.class a.number f.ranges.number.fits f.requires.1 a.v.now f.requires.2 f.requires.4
-    j.bad_in_create.result p.new_place.ensures j.bad_in_create.ensures c.before.before.before.before.if1.false (omega arith) a.out.now f.requires.3
+    j.bad_in_create-bad.result p.new_place.ensures j.bad_in_create-bad.ensures c.if-bad-ne0.false (omega arith) a.out.now f.requires.3
 
 -- the store's live table, and the place that the instance would get
-put_in_requires : tie.Need-put-in-requires
+put_in_requires : tie.Need-put_in-requires
 put_in_requires c κs =
     let p = c.before.before.before.before.before.before.before.before.before.before.before.before in
-    let f = p.before.before.before.before.before in
+    let f = p.before.before in
     let a = f.args in
-    let room = c.before.before.before.in_use.ensures in
-    let left = c.before.before.if2.false in (
+    let room = c.in_use.ensures in
+    let left = c.if-in_use-ge-PLACE_COUNT.false in (
       live_shaped a.product a.store.now f.requires.0,
       omega arith,
       rank_small (key a.class a.number) (part live_at block_length a.store.now) f.requires.5,
       ap length p.new_place.ensures ∙ place_has_its_length _,
     )
 
-returns-3 : tie.Need-returns-3
+returns-3 : tie.Need-returns
 returns-3 c =
     let fine = c.before.before.before.before.before.before.before.before.before in
     let j = fine.before in
     let p = j.before.before.before.before.before in
-    let f = p.before.before.before.before.before in
+    let f = p.before.before in
     let a = f.args in
     let room = c.before.before.before.before.before in
-    let n = room.before.in_use.ensures in
-    let m = room.if2.false in
-    let small = known_bytes a.v.now (λ i. (p.before.before.before.shared_slice_known.given i).fits) in
+    let n = room.in_use.ensures in
+    let m = room.if-in_use-ge-PLACE_COUNT.false in
+    let small = known_bytes a.v.now (λ i. (p.shared_slice_known-1.given i).fits) in
     accepted a.product a.store.now f.requires.0 a.class a.number f.ranges.number.fits f.requires.1 a.v.now f.requires.2 f.requires.4
-    j.bad_in_create.result p.new_place.ensures j.bad_in_create.ensures fine.if1.false (omega arith) small
-    f.requires.5 c.before.before.put_in.ensures a.out.now f.requires.3
+    j.bad_in_create-bad.result p.new_place.ensures j.bad_in_create-bad.ensures fine.if-bad-ne0.false (omega arith) small
+    f.requires.5 c.put_in.ensures a.out.now f.requires.3
 
 pub create_absent_spec : {M : Type 1} → statement M
 create_absent_spec =

@@ -14,27 +14,27 @@ use Rattle.create_command.proofs.lay_others.Reads as lay_others_reads
 use Rattle.octets.proofs.copy_in.Reads as copy_in_reads
 
 -- what is carried is there, and fits
-part_copy_in_end : tie.Need-slice-bounds-copy-in-end
+part_copy_in_end : tie.Need-slice_bounds-copy_in-end
 part_copy_in_end c =
     let f = c.before.before.before.before in
-    let e = c.before.carried_size.ensures in
+    let e = c.carried_size-size.ensures in
     let z = carried_room f.args.product f.args.class f.args.v.now f.requires.2 in
     omega arith
 
-copy_in_requires : tie.Need-copy-in-requires
+copy_in_requires : tie.Need-copy_in-requires
 copy_in_requires c κs =
     let f = c.before.before.before.before.before in
-    let e = c.before.before.carried_size.ensures in
+    let e = c.carried_size-size.ensures in
     let z = carried_room f.args.product f.args.class f.args.v.now f.requires.2 in
     simp (length-take, length-drop, length-replicate) (omega arith)
 
 -- the bytes that what the Create carried was copied into
-own_long : (c : tie.After-copy-in) → length c.copy_in.new.0 ≡ place_width
+own_long : (c : tie.After-copy_in) → length c.copy_in.new.dst ≡ place_width
 own_long c =
     let f = c.before.before.before.before.before.before in
-    carried_long f.args.product f.args.class f.args.v.now f.requires.2 f.requires.1 c.before.before.before.carried_size.ensures c.copy_in.ensures
+    carried_long f.args.product f.args.class f.args.v.now f.requires.2 f.requires.1 c.carried_size-size.ensures c.copy_in.ensures
 
-copy_in_requires_2 : tie.Need-copy-in-requires-2
+copy_in_requires_2 : tie.Need-copy_in-requires-2
 copy_in_requires_2 c κs =
     let l = c.before.before.before in
     let f = l.before.before.before.before.before.before in
@@ -42,30 +42,30 @@ copy_in_requires_2 c κs =
     let m : length f.args.c.now ≡ place_width = ap length f.requires.0 in
     omega arith
 
-lay_others_requires : tie.Need-lay-others-requires
+lay_others_requires : tie.Need-lay_others-requires
 lay_others_requires c κs =
     let l = c.before.before.before.before.before.before.before.before.before.before in
     let f = l.before.before.before.before.before.before in
     let m : length f.args.c.now ≡ place_width = ap length f.requires.0 in
     (search rules, own_long l)
 
-returns : tie.Need-returns
+returns : tie.Need-returns-then-companion-ne0
 returns c =
     let o = c.before.before.before.before.before.before in
     let l = o.before.before.before.before.before.before.before in
     let f = l.before.before.before.before.before.before in
     let a = f.args in
-    made_with a.product a.class a.v.now f.requires.2 f.requires.1 l.before.before.before.carried_size.ensures l.copy_in.ensures o.companion_of.result
-    f.requires.0 o.before.before.before.copy_in2.ensures o.companion_of.ensures c.before.before.before.before.before.if1.true c.before.before.lay_others.ensures
+    made_with a.product a.class a.v.now f.requires.2 f.requires.1 l.carried_size-size.ensures l.copy_in.ensures o.companion_of-companion.result
+    f.requires.0 o.copy_in-2.ensures o.companion_of-companion.ensures c.if-companion-ne0.true c.lay_others.ensures
 
-returns-2 : tie.Need-returns-2
+returns-2 : tie.Need-returns-else-companion-ne0
 returns-2 c =
     let o = c.before in
     let l = o.before.before.before.before.before.before.before in
     let f = l.before.before.before.before.before.before in
     let a = f.args in
-    made_alone a.product a.class a.v.now f.requires.2 f.requires.1 l.before.before.before.carried_size.ensures l.copy_in.ensures o.companion_of.result
-    f.requires.0 o.before.before.before.copy_in2.ensures o.companion_of.ensures c.if1.false
+    made_alone a.product a.class a.v.now f.requires.2 f.requires.1 l.carried_size-size.ensures l.copy_in.ensures o.companion_of-companion.result
+    f.requires.0 o.copy_in-2.ensures o.companion_of-companion.ensures c.if-companion-ne0.false
 
 pub new_contents_spec : {M : Type 1} → statement M
 new_contents_spec =

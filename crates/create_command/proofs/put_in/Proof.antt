@@ -10,8 +10,8 @@ use Rattle.table.proofs.insert_place.Reads as insert_place_reads
 returns : tie.Need-returns
 returns c =
     let i = c.before.before.before.before.before.before in
-    let a = i.before.before.before.before.args in
-    put_in_is a.j a.r.now a.b.now i.insert_place.ensures c.before.before.move_counter.ensures
+    let a = i.args in
+    put_in_is a.j a.r.now a.b.now i.insert_place.ensures c.move_counter.ensures
 
 pub put_in_spec : {M : Type 1} → statement M
 put_in_spec =

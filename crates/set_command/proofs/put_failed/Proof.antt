@@ -9,26 +9,26 @@ use Rattle.set_command.proofs.put_failed.Reads as reads
 use Rattle.set_command.proofs.put_failed.Lts as lts
 use Rattle.octets.proofs.put_number.Reads as put_number_reads
 
-slice_write_out : tie.Need-slice-write-out
+slice_write_out : tie.Need-bounds-out-0
 slice_write_out c =
-    let n : length c.before.args.out.now ≡ 32 = ap length c.before.requires in
+    let n : length c.args.out.now ≡ 32 = ap length c.requires in
     search rules
 
-put_number_requires : tie.Need-put-number-requires
+put_number_requires : tie.Need-put_number-requires
 put_number_requires c κs =
-    let n : length c.before.before.args.out.now ≡ 32 = ap length c.before.before.requires in
+    let n : length c.args.out.now ≡ 32 = ap length c.requires in
     simp length-set (omega arith)
 
-put_number_requires_2 : tie.Need-put-number-requires-2
+put_number_requires_2 : tie.Need-put_number-requires-2
 put_number_requires_2 c κs =
     let f = c.before.before.before.before.before.before in
-    let n = half_failed f.args.out.now f.args.unsupported f.requires c.before.before.before.put_number.ensures in
+    let n = half_failed f.args.out.now f.args.unsupported f.requires c.put_number.ensures in
     omega arith
 
 returns : tie.Need-returns
 returns c =
     let x = c.before.before.before.before.before.before in
-    put_failed_is _ _ _ x.before.before.before.requires x.put_number.ensures c.before.before.put_number2.ensures
+    put_failed_is _ _ _ x.requires x.put_number.ensures c.put_number-2.ensures
 
 pub put_failed_spec : {M : Type 1} → statement M
 put_failed_spec =

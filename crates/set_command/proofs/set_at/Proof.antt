@@ -13,47 +13,47 @@ use Rattle.set_command.proofs.put_failed.Reads as put_failed_reads
 use Rattle.set_command.proofs.set_refusal.Reads as set_refusal_reads
 use Rattle.set_command.proofs.write_set.Reads as write_set_reads
 
-write_set_requires : tie.Need-write-set-requires
+write_set_requires : tie.Need-write_set-requires
 write_set_requires c κs =
-    let f = c.before.before.before.before.before.before.before.before.before.before.before.before in
+    let f = c.before in
     let a = f.args in
     let whole = f.requires.1.long in (
       accepted_lays a.product a.class a.at a.v.now a.store.now
-          c.before.before.before.before.before.before.before.before.number_at.ensures c.before.before.before.before.set_refusal.ensures
-          c.before.before.enum_told.given.1 f.requires.3 f.requires.2,
+          c.number_at-asked.ensures c.set_refusal-refusal.ensures
+          c.in-Accepted.is f.requires.3 f.requires.2,
       omega arith,
     )
 
-slice_write_out : tie.Need-slice-write-out
+slice_write_out : tie.Need-bounds-out-0
 slice_write_out c =
-    let f = c.before.before.before.before.before.before.before.before.before.before in
+    let f = c.before in
     let n : length f.args.out.now ≡ 32 = ap length f.requires.4 in
     search rules
 
-returns : tie.Need-returns
+returns : tie.Need-returns-in-Accepted
 returns c =
-    let f = c.before.before.before.before.before.before.before.before.before.before.before.before.before.before.before in
+    let f = c.before in
     let a = f.args in
     as_accepted a.product a.class a.at a.v.now a.store.now
-    c.before.before.before.before.before.before.before.before.before.before.before.number_at.ensures
-    c.before.before.before.before.before.before.before.set_refusal.ensures
-    c.before.before.before.before.before.enum_told.given.1 f.requires.3 f.requires.2 f.requires.1.long c.before.before.write_set.ensures f.requires.4
+    c.number_at-asked.ensures
+    c.set_refusal-refusal.ensures
+    c.in-Accepted.is f.requires.3 f.requires.2 f.requires.1.long c.write_set.ensures f.requires.4
 
-returns-2 : tie.Need-returns-2
+returns-2 : tie.Need-returns-in-BadParameter
 returns-2 c =
-    let f = c.before.before.before.before.before.before.before.before.before.before in
+    let f = c.before in
     let a = f.args in
-    with_refusal a.product a.class a.at a.v.now a.store.now c.before.before.before.before.before.before.number_at.ensures
-    c.before.before.set_refusal.ensures refl c.enum_told2.given.1 (result_alone a.out.now _ f.requires.4)
+    with_refusal a.product a.class a.at a.v.now a.store.now c.number_at-asked.ensures
+    c.set_refusal-refusal.ensures refl c.in-BadParameter.is (result_alone a.out.now _ f.requires.4)
 
-returns-3 : tie.Need-returns-3
+returns-3 : tie.Need-returns-in-Failed
 returns-3 c =
-    let f = c.before.before.before.before.before.before.before.before.before.before.before.before.before.before.before in
+    let f = c.before in
     let a = f.args in
     with_refusal a.product a.class a.at a.v.now a.store.now
-    c.before.before.before.before.before.before.before.before.before.before.before.number_at.ensures
-    c.before.before.before.before.before.before.before.set_refusal.ensures refl c.before.before.before.before.before.refusal.given.1
-    c.before.before.put_failed.ensures
+    c.number_at-asked.ensures
+    c.set_refusal-refusal.ensures refl c.in-Failed.is
+    c.put_failed.ensures
 
 pub set_at_spec : {M : Type 1} → statement M
 set_at_spec =

@@ -7,17 +7,17 @@ use Rattle.set_command.proofs.write_set.Lts as lts
 use Rattle.table.proofs.counter.move_counter.Reads as move_counter_reads
 use Rattle.attribute_write.proofs.lay_values.Reads as lay_values_reads
 
-returns : tie.Need-returns
+returns : tie.Need-returns-then-class-ne-ONT_DATA
 returns c =
-    let a = c.before.before.before.before.before.before.before.before.before.before.before.args in
+    let a = c.args in
     wrote_counted a.product a.class a.at a.asked a.v.now a.b.now
-    c.before.before.before.before.before.before.before.lay_values.ensures c.before.before.before.before.if1.true
-    c.before.before.move_counter.ensures
+    c.lay_values.ensures c.if-class-ne-ONT_DATA.true
+    c.move_counter.ensures
 
-returns-2 : tie.Need-returns-2
+returns-2 : tie.Need-returns-else-class-ne-ONT_DATA
 returns-2 c =
-    let a = c.before.before.before.before.before.before.before.args in
-    wrote_alone a.product a.class a.at a.asked a.v.now a.b.now c.before.before.before.lay_values.ensures c.if1.false
+    let a = c.args in
+    wrote_alone a.product a.class a.at a.asked a.v.now a.b.now c.lay_values.ensures c.if-class-ne-ONT_DATA.false
 
 pub write_set_spec : {M : Type 1} → statement M
 write_set_spec =
