@@ -1,7 +1,7 @@
 -- What is read at an instance's spot in a block is what the rules read in the table that the block holds.
 use Prim.Native.Nat.{ℕ, ◌+◌, ◌-◌, ◌<◌}
 use native.Mathlib.Omega.{arith}
-use mathlib.Core.Path.{◌≡◌, refl, ◌∙◌, ap}
+use mathlib.Core.Path.{◌≡◌, subst, refl, ◌∙◌, ap}
 use mathlib.Core.Bool.{true}
 use mathlib.Core.Option.{some}
 use mathlib.Core.Logic.{◌≢◌}
@@ -140,4 +140,5 @@ values_live pr b t q c i o lt sp [] s = refl
 values_live pr b t q c i o lt sp (n ∷ m) s =
     let kn : known (cat_of pr) c ≡ true = supported_known (cat_of pr) c n (both s).0 in
     let h : LegalLive (cat_of pr) (well_formed_of pr) t = open_table (cat_of pr) (well_formed_of pr) (standing (cat_of pr) (well_formed_of pr)) t q.legal in
-    rw q.is (values_read (cat_of pr) (well_formed_of pr) (live_bytes t) t i c o (live_shows pr t h i lt c o kn sp) sp (n ∷ m) s)
+    subst (λ (x : List ℕ). values_at (cat_of pr) x c i o (n ∷ m) ≡ values (cat_of pr) t c i (n ∷ m)) (sym q.is)
+    (values_read (cat_of pr) (well_formed_of pr) (live_bytes t) t i c o (live_shows pr t h i lt c o kn sp) sp (n ∷ m) s)

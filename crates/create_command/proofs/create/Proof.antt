@@ -28,9 +28,7 @@ rank_of_requires c κs =
 
 has_key_requires : tie.Need-has_key-requires
 has_key_requires c κs =
-    let p = c.before.before in
-    let f = p.before.before in
-    (live_shaped f.args.product f.args.store.now f.requires.0, p.rank_of-j.ensures)
+    (live_shaped c.args.product c.args.store.now c.requires.0, c.rank_of-j.ensures)
 
 slice_write_out : tie.Need-bounds-out-0
 slice_write_out c =
@@ -40,18 +38,17 @@ slice_write_out c =
 
 -- the keys of the live table
 abbrev its_keys : tie.After-has_key → List ℕ
-its_keys c = keys_in (part live_at block_length c.before.before.before.before.before.before.before.before.before.before.args.store.now)
+its_keys c = keys_in (part live_at block_length c.args.store.now)
 
 -- whether one is the instance's, as the code found it
 its_place : (c : tie.After-has_key)
-    → c.has_key.result ≡ is_some (position (key c.before.before.args.class
-    c.before.before.args.number) (its_keys c))
+    → c.has_key.result ≡ is_some (position (key c.args.class c.args.number) (its_keys c))
 its_place c = c.has_key.ensures ∙ ap (λ k. is_some (position k (its_keys c))) c.key_of-key.ensures
 
 returns : tie.Need-returns-then-has_key
 returns c =
     let p = c.before in
-    let f = p.before.before in
+    let f = p in
     let a = f.args in
     exists a.product a.store.now f.requires.0 a.class a.number f.ranges.number.fits f.requires.1 a.v.now f.requires.2
     (its_place p) c.if-has_key.true a.out.now f.requires.3
@@ -59,7 +56,7 @@ returns c =
 create_absent_requires : tie.Need-create_absent-requires
 create_absent_requires c κs =
     let p = c.before.before.before in
-    let f = p.before.before in
+    let f = p in
     let a = f.args in
     let absent = held_is a.product a.store.now f.requires.0 a.class a.number f.ranges.number.fits f.requires.1 a.v.now f.requires.2 (its_place p) ∙ c.if-has_key.false in
     let put = p.rank_of-j.ensures ∙ ap (λ k. rank k (its_keys p)) p.key_of-key.ensures in

@@ -23,33 +23,33 @@ use Rattle.store.specs.Layout.{live_at, block_length}
 
 bad_in_create_requires : tie.Need-bad_in_create-bad-requires
 bad_in_create_requires c κs =
-    let f = c.before in
+    let f = c in
     (live_shaped f.args.product f.args.store.now f.requires.0, f.requires.1, f.requires.2, ap length c.new_place.ensures ∙ place_has_its_length _)
 
 slice_write_out : tie.Need-bounds-out-0
 slice_write_out c =
-    let f = c.before in
+    let f = c in
     let n : length f.args.out.now ≡ 32 = ap length f.requires.3 in
     search rules
 
 put_number_requires : tie.Need-put_number-requires
 put_number_requires c κs =
-    let f = c.before in
+    let f = c in
     let n : length (set f.args.out.now 0 bad_parameter) ≡ 32 = ap (λ o. length (set o 0 bad_parameter)) f.requires.3 in
     omega arith
 
 same_length_2 : tie.Need-shape_of-out-then-bad-ne0
 same_length_2 c =
-    let j = c.before.before.before.before.before in
-    let f = j.before in
+    let j = c in
+    let f = c in
     let n = reply_long f.args.out.now j.bad_in_create-bad.result f.requires.3 c.put_number.ensures in
     search rules
 
 returns : tie.Need-returns-then-bad-ne0
 returns c =
-    let j = c.before.before.before.before.before in
-    let p = j.before.before.before.before.before in
-    let f = p.before in
+    let j = c in
+    let p = c in
+    let f = c in
     let a = f.args in
     rw c.put_number.ensures
     (refused_bad a.product a.store.now f.requires.0 a.class a.number f.ranges.number.fits f.requires.1 a.v.now f.requires.2 f.requires.4
@@ -57,15 +57,15 @@ returns c =
 
 slice_write_out_2 : tie.Need-bounds-out-0-then-in_use-ge-PLACE_COUNT
 slice_write_out_2 c =
-    let f = c.before.before in
+    let f = c in
     let n : length f.args.out.now ≡ 32 = ap length f.requires.3 in
     search rules
 
 returns-2 : tie.Need-returns-then-in_use-ge-PLACE_COUNT
 returns-2 c =
-    let j = c.before.before.before.before.before in
-    let p = j.before.before.before.before.before in
-    let f = p.before.before in
+    let j = c in
+    let p = c in
+    let f = c in
     let a = f.args in
     let n = c.in_use.ensures in
     let m = c.if-in_use-ge-PLACE_COUNT.true in
@@ -75,8 +75,8 @@ returns-2 c =
 -- the store's live table, and the place that the instance would get
 put_in_requires : tie.Need-put_in-requires
 put_in_requires c κs =
-    let p = c.before.before.before.before.before.before.before.before.before.before.before.before in
-    let f = p.before.before in
+    let p = c in
+    let f = c in
     let a = f.args in
     let room = c.in_use.ensures in
     let left = c.if-in_use-ge-PLACE_COUNT.false in (
@@ -88,12 +88,12 @@ put_in_requires c κs =
 
 returns-3 : tie.Need-returns
 returns-3 c =
-    let fine = c.before.before.before.before.before.before.before.before.before in
-    let j = fine.before in
-    let p = j.before.before.before.before.before in
-    let f = p.before.before in
+    let fine = c in
+    let j = c in
+    let p = c in
+    let f = c in
     let a = f.args in
-    let room = c.before.before.before.before.before in
+    let room = c in
     let n = room.in_use.ensures in
     let m = room.if-in_use-ge-PLACE_COUNT.false in
     let small = known_bytes a.v.now (λ i. (p.shared_slice_known-1.given i).fits) in

@@ -14,7 +14,7 @@ use Rattle.create_command.proofs.lay_others.Reads as lay_others_reads
 use Rattle.octets.proofs.copy_in.Reads as copy_in_reads
 
 -- what is carried is there, and fits
-part_copy_in_end : tie.Need-slice_bounds-copy_in-end
+part_copy_in_end : tie.Need-slice_bounds-copy_in-end-2
 part_copy_in_end c =
     let f = c.before.before.before.before in
     let e = c.carried_size-size.ensures in

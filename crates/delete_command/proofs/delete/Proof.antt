@@ -19,46 +19,46 @@ use Rattle.table.proofs.place_of.Reads as place_of_reads
 use Rattle.store.specs.Layout.{live_at, block_length}
 
 -- which place has the instance's key, as the code found it
-its_place : (c : lts.After-place-of (key_of_reads.Asked, key_of_reads.Learnt, place_of_reads.Asked, place_of_reads.Learnt, take_out_reads.Asked, take_out_reads.Learnt) reads.Pre reads.Post)
-    {f : Found} → c.place_of.result ≡ f
-    → position (key c.before.before.before.before.before.before.args.class c.before.before.before.before.before.before.args.number)
-    (keys_in (part live_at block_length c.before.before.before.before.before.before.args.store.now)) ≡ found_of f
+its_place : (c : lts.After-place_of-found tie.the-claims reads.Pre reads.Post)
+    {f : Found} → c.place_of-found.result ≡ f
+    → position (key c.args.class c.args.number)
+    (keys_in (part live_at block_length c.args.store.now)) ≡ found_of f
 its_place c e =
-    let entry = c.before.before.before.before.before.before in
-    sym (c.place_of.ensures ∙ ap (λ k. position k (keys_in (part live_at block_length entry.args.store.now))) c.before.key_of.ensures) ∙ ap found_of e
+    let entry = c.before in
+    sym (c.place_of-found.ensures ∙ ap (λ k. position k (keys_in (part live_at block_length entry.args.store.now))) c.key_of.ensures) ∙ ap found_of e
 
-place_of_requires : tie.Need-place-of-requires
-place_of_requires c κs = let f = c.before.before.before.before.before in live_shaped f.args.product f.args.store.now f.requires.0
+place_of_requires : tie.Need-place_of-found-requires
+place_of_requires c κs = let f = c.before in live_shaped f.args.product f.args.store.now f.requires.0
 
-take_out_requires : tie.Need-take-out-requires
+take_out_requires : tie.Need-take_out-requires
 take_out_requires c κs =
-    let f = c.before.before.before.before.before.before.before.before.before.before in
+    let f = c.before in
     let a = f.args in (
       live_shaped a.product a.store.now f.requires.0,
       place_in_use a.product a.store.now f.requires.0 a.class a.number f.ranges.number.fits f.requires.1 _
-          (its_place c.before.before.before.before c.before.before.found.given.1),
+          (its_place c.before.before c.in-At.is),
     )
 
-slice_write_out : tie.Need-slice-write-out
+slice_write_out : tie.Need-bounds-out-0
 slice_write_out c =
-    let f = c.before.before.before.before.before.before.before.before in
+    let f = c.before in
     let n : length f.args.out.now ≡ 32 = rw f.requires.2 refl in
     search rules
 
-returns : tie.Need-returns
+returns : tie.Need-returns-in-At
 returns c =
-    let f = c.before.before.before.before.before.before.before.before.before.before.before.before.before in
+    let f = c.before in
     let a = f.args in
-    rw c.before.before.take_out.ensures
+    rw c.take_out.ensures
     (deleted a.product a.store.now f.requires.0 a.class a.number f.ranges.number.fits f.requires.1 _
-    (its_place c.before.before.before.before.before.before.before c.before.before.before.before.before.found.given.1) a.out.now f.requires.2)
+    (its_place c.before.before.before.before.before c.in-At.is) a.out.now f.requires.2)
 
-returns-2 : tie.Need-returns-2
+returns-2 : tie.Need-returns-in-Nothing
 returns-2 c =
-    let f = c.before.before.before.before.before.before.before.before in
+    let f = c.before in
     let a = f.args in
     refused a.product a.store.now f.requires.0 a.class a.number f.ranges.number.fits f.requires.1
-    (its_place c.before.before c.enum_told.given.1) a.out.now f.requires.2
+    (its_place c.before c.in-Nothing.is) a.out.now f.requires.2
 
 pub delete_spec : {M : Type 1} → statement M
 delete_spec =

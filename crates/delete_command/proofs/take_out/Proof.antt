@@ -8,7 +8,7 @@ use Rattle.table.proofs.counter.move_counter.Reads as move_counter_reads
 use Rattle.table.proofs.remove_place.Reads as remove_place_reads
 
 returns : tie.Need-returns
-returns c = taken_out_is _ _ _ _ c.before.before.before.before.before.before.remove_place.ensures c.before.before.move_counter.ensures
+returns c = taken_out_is _ _ _ _ c.remove_place.ensures c.move_counter.ensures
 
 pub take_out_spec : {M : Type 1} → statement M
 take_out_spec =

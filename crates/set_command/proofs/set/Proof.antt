@@ -45,7 +45,7 @@ returns c =
     let a = f.args in
     leaves a.product a.store.now f.requires.0 a.class a.number f.ranges.number.fits _
     (sym l.locate-found.ensures ∙ ap found_of m.in-At.is)
-    a.v.now f.requires.1 (known_bytes a.v.now (λ i. (k.shared_slice_known-1.given i).fits))
+    a.v.now f.requires.1 (known_bytes a.v.now (λ i. (c.shared_slice_known-1.given i).fits))
     c.set_at.ensures
 
 returns-2 : tie.Need-returns-in-Nothing

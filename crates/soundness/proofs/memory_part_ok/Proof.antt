@@ -6,15 +6,15 @@ use borrow.Author.Rules.{rules}
 use Rattle.soundness.proofs.memory_part_ok.Statement.{statement}
 use Rattle.soundness.proofs.memory_part_ok.Tie as tie
 
-returns : tie.Need-returns
-returns c = let a = c.before.before.before.before.args in c.zeros_from.ensures ∙ sym (absent memory_test a.b.now c.before.if1.true)
+returns : tie.Need-returns-then-b-eq0
+returns c = let a = c.args in c.zeros_from.ensures ∙ sym (absent memory_test a.b.now c.if-b-eq0.true)
 
-returns-2 : tie.Need-returns-2
+returns-2 : tie.Need-returns
 unfolding ◌and◌
 returns-2 c =
     let test = c.before.before.before.before.before in
-    let b = test.before.before.before.args.b.now in
-    sym (present memory_test b test.if1.false ∙ rw (memory_behind b) refl)
+    let b = test.args.b.now in
+    sym (present memory_test b test.if-b-eq0.false ∙ rw (memory_behind b) refl)
 
 pub memory_part_ok_spec : {M : Type 1} → statement M
 memory_part_ok_spec =

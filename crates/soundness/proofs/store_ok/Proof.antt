@@ -6,24 +6,23 @@ use Rattle.soundness.proofs.SoundTested.{too_short, no_product, product_tested}
 use Rattle.rules.proofs.ByteLaws.{known_bytes}
 use Rattle.class_tables.specs.Built.{named_catalogue}
 
-returns : tie.Need-returns
-returns c = sym (too_short c.before.before.args.s.now c.if1.true)
+returns : tie.Need-returns-then-s-lt-STORE
+returns c = sym (too_short c.args.s.now c.if-s-lt-STORE.true)
 
-returns-2 : tie.Need-returns-2
+returns-2 : tie.Need-returns-in-Is
 returns-2 c =
-    let told = c.before.before.named.given in
-    let called = c.before.before.before.before in
-    let start = called.before.before.before in
-    let s = start.before.args.s.now in
-    let bs = known_bytes s (λ i. (start.shared_slice_known.given i).fits) in
-    c.parts_ok.ensures
-    ∙ sym (product_tested told.0.0 s bs called.before.before.if1.false (sym (called.product_at.ensures.its_number told.0.0 told.1)))
-
-returns-3 : tie.Need-returns-3
-returns-3 c =
     let called = c.before.before in
-    sym (no_product called.before.before.before.before.args.s.now
-    (sym called.product_at.ensures.found ∙ ap named_catalogue c.enum_told.given.1))
+    let start = called.before.before.before in
+    let s = start.args.s.now in
+    let bs = known_bytes s (λ i. (start.shared_slice_known-1.given i).fits) in
+    c.parts_ok.ensures
+    ∙ sym (product_tested c.in-Is.field-0 s bs called.if-s-lt-STORE.false (sym (called.product_at-named.ensures.its_number c.in-Is.field-0 c.in-Is.is)))
+
+returns-3 : tie.Need-returns-in-Nothing
+returns-3 c =
+    let called = c.before in
+    sym (no_product called.args.s.now
+    (sym called.product_at-named.ensures.found ∙ ap named_catalogue c.in-Nothing.is))
 
 pub store_ok_spec : {M : Type 1} → statement M
 store_ok_spec = tie.close (tie.spec returns (λ c. search rules) (λ c κs. search rules) (λ c. search rules) (λ c κs. search rules) (λ c. search rules) returns-2 returns-3)
