@@ -1,7 +1,7 @@
 -- What is read at an instance's spot in a block is what the rules read in the table that the block holds.
 use Prim.Native.Nat.{ℕ, ◌+◌, ◌-◌, ◌<◌}
 use native.Mathlib.Omega.{arith}
-use mathlib.Core.Path.{◌≡◌, subst, refl, ◌∙◌, ap}
+use mathlib.Core.Path.{◌≡◌, subst, refl, sym, ◌∙◌, ap}
 use mathlib.Core.Bool.{true}
 use mathlib.Core.Option.{some}
 use mathlib.Core.Logic.{◌≢◌}

@@ -1,7 +1,7 @@
 -- Bytes of alarms are those of legal bitmaps exactly if they pass the test.
 use Prim.Native.Nat.{ℕ, zero, suc, ◌≤◌}
 use native.Mathlib.Omega.{arith}
-use mathlib.Core.Path.{◌≡◌, refl, sym, ◌∙◌, ap}
+use mathlib.Core.Path.{◌≡◌, refl, sym, subst, ◌∙◌, ap}
 use mathlib.Core.Bool.{Bool, true, false, not}
 use mathlib.Core.Logic.{◌≢◌}
 use mathlib.Core.List.{List, [], ◌∷◌, ◌++◌, map}
@@ -79,12 +79,16 @@ read_shown low (k ∷ l) [] u h bs = absurd (omega arith)
 read_shown low (k ∷ l) (x ∷ b) u h bs =
     let m : Map Alarms = read_alarms l b in
     let r : map (slot_byte m) l ≡ take (length l) b = read_shown (suc k) l b u.1 (omega arith) (bytes_drop 1 (x ∷ b) bs) in
+    let shows = λ (q : Map Alarms). map (slot_byte q) (k ∷ l) ≡ take (length (k ∷ l)) (x ∷ b) in
     let y : bits_from 0 (take 8 (shown_by x)) ≡ x = byte_shown x (byte_small (x ∷ b) 0 bs) in
     cases (some_on (shown_by x))
-    (λ t. rw (t, find_here k (shown_by x) m, y, bytes_past l (k, shown_by x) m u.1, r))
     (λ t.
+    let n : read_alarms (k ∷ l) (x ∷ b) ≡ (k, shown_by x) ∷ m = rw (t, read_alarms) in
+    subst shows (sym n) (rw (find_here k (shown_by x) m, y, bytes_past l (k, shown_by x) m u.1, r)))
+    (λ t.
+    let n : read_alarms (k ∷ l) (x ∷ b) ≡ m = rw (t, read_alarms) in
     let o : bits_from 0 (take 8 (replicate 224 false)) ≡ x = ap (λ (a : Alarms). bits_from 0 (take 8 a)) (sym (none_shown x t)) ∙ y in
-    rw (t, find_below k (suc k) m (up_read (suc k) l b u.1) (omega arith), o, r))
+    subst shows (sym n) (rw (find_below k (suc k) m (up_read (suc k) l b u.1) (omega arith), o, r)))
 
 module _ (cat : Catalogue) (there : ℕ → ℕ → Bool) where
   abbrev legal_at : ℕ → Alarms → Bool

@@ -15,21 +15,21 @@ use Rattle.alarm_report.proofs.notify.Lts as lts
 use Rattle.bits.proofs.next_number.Reads as next_number_reads
 use Rattle.message_frame.proofs.begin.Reads as begin_reads
 
-slice_write_reply_2 : tie.Need-slice-write-reply-2
+slice_write_reply_2 : tie.Need-bounds-reply-39
 slice_write_reply_2 c =
-    let a = c.before.before.before.before.before.before.before.before.args in
-    let b = c.before.before.begin in
-    let l = begun_length a.class a.number (drop 48 a.reply.now) b.new.0 b.ensures in
+    let a = c.args in
+    let b = c.begin in
+    let l = begun_length a.class a.number (drop 48 a.reply.now) b.new.buffer b.ensures in
     simp length-set (search rules)
 
 returns : tie.Need-returns
 returns c =
     let f = c.before.before.before.before.before.before.before.before in
     let a = f.args in
-    let b = c.before.before.begin in
-    let n = c.before.before.before.before.next_number in (
+    let b = c.begin in
+    let n = c.next_number-sequence in (
       one_laid alarm_number_at n.result a.store.now (search rules) ∙ ap (λ (s : ℕ). laid alarm_number_at (s ∷ []) a.store.now) n.ensures,
-      noticed a.class a.number (drop 48 a.reply.now) b.new.0 a.alarms n.result b.ensures
+      noticed a.class a.number (drop 48 a.reply.now) b.new.buffer a.alarms n.result b.ensures
           ∙ ap (λ (s : ℕ). notice a.class a.number a.alarms s ++ drop 48 a.reply.now) n.ensures,
     )
 

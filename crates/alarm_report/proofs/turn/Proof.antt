@@ -10,20 +10,20 @@ use Rattle.alarm_report.proofs.turn.Lts as lts
 use Rattle.bits.proofs.alarm_on.Reads as alarm_on_reads
 use Rattle.bits.proofs.alarm_turned.Reads as alarm_turned_reads
 
-returns : tie.Need-returns
+returns : tie.Need-returns-then-is_on-on
 returns c =
     let f = c.before.before.before.before in
     let a = f.args in
-    let o = c.before.alarm_on in
-    (turned_not (byte a.alarms.now a.slot) a.alarm a.on o.result o.ensures c.if1.true, refl)
+    let o = c.alarm_on-is_on in
+    (turned_not (byte a.alarms.now a.slot) a.alarm a.on o.result o.ensures c.if-is_on-on.true, refl)
 
-returns-2 : tie.Need-returns-2
+returns-2 : tie.Need-returns
 returns-2 c =
     let f = c.before.before.before.before.before in
     let a = f.args in
-    let o = c.before.before.alarm_on in
-    let t = c.alarm_turned in (
-      turned_to (byte a.alarms.now a.slot) a.alarm a.on o.result o.ensures c.before.if1.false t.result t.ensures,
+    let o = c.alarm_on-is_on in
+    let t = c.alarm_turned-is in (
+      turned_to (byte a.alarms.now a.slot) a.alarm a.on o.result o.ensures c.if-is_on-on.false t.result t.ensures,
       one_laid a.slot t.result a.alarms.now f.requires.0,
     )
 

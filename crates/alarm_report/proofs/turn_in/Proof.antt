@@ -7,23 +7,23 @@ use Rattle.alarm_report.proofs.turn_in.Lts as lts
 use Rattle.alarm_report.proofs.notify.Reads as notify_reads
 use Rattle.alarm_report.proofs.turn.Reads as turn_reads
 
-returns : tie.Need-returns
+returns : tie.Need-returns-in-To
 returns c =
-    let told = c.before.before.before.before.before.before.before.before in
-    let t = told.before.before.before.before.turn in
-    let f = told.before.before.before.before.before.before.before.before in
+    let told = c.before.before.before.before.before.before.before in
+    let t = told.turn-turned in
+    let f = told.before.before.before.before.before.before.before in
     let a = f.args in
-    let n = c.before.before.before.before.notify in
-    left_turned a.slot a.class a.number a.alarm a.on a.store.now a.reply.now t.result t.ensures.0 t.new.0 t.ensures.1
-    f.requires.0 f.requires.1 _ told.turned.given.1 _ _ n.ensures.0 n.ensures.1
+    let n = c.notify in
+    left_turned a.slot a.class a.number a.alarm a.on a.store.now a.reply.now t.result t.ensures.0 t.new.alarms t.ensures.1
+    f.requires.0 f.requires.1 _ told.in-To.is _ _ n.ensures.0 n.ensures.1
 
-returns-2 : tie.Need-returns-2
+returns-2 : tie.Need-returns-in-Already
 returns-2 c =
-    let t = c.before.before.before.before.turn in
-    let f = c.before.before.before.before.before.before.before.before in
+    let t = c.turn-turned in
+    let f = c.before.before.before.before.before.before.before in
     let a = f.args in
-    left_quiet a.slot a.class a.number a.alarm a.on a.store.now a.reply.now t.result t.ensures.0 t.new.0 t.ensures.1
-    c.enum_told.given.1
+    left_quiet a.slot a.class a.number a.alarm a.on a.store.now a.reply.now t.result t.ensures.0 t.new.alarms t.ensures.1
+    c.in-Already.is
 
 pub turn_in_spec : {M : Type 1} → statement M
 turn_in_spec =

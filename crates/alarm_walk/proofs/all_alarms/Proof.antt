@@ -16,53 +16,53 @@ use Rattle.class_tables.proofs.slots.slots.Reads as slots_reads
 use Rattle.octets.proofs.freeze.Reads as freeze_reads
 use Rattle.octets.proofs.put_number.Reads as put_number_reads
 
-returns : tie.Need-returns
+returns : tie.Need-returns-then-not-is_ont_data
 returns c =
-    let f = c.before.before.before.before in
+    let f = c in
     let a = f.args in
-    nothing_frozen a.product a.store.now f.requires.0 a.class a.number a.out.now (sym c.before.is_ont_data.ensures ∙ not-true c.if1.true) f.requires.1
+    nothing_frozen a.product a.store.now f.requires.0 a.class a.number a.out.now (sym c.is_ont_data.ensures ∙ c.if-not-is_ont_data.true) f.requires.1
 
-add_e : tie.Need-overflow-add-e
-add_e c = let m = few_slots c.before.before.before.before.before.args.product in search rules
+add_e : tie.Need-overflow_add-e
+add_e c = let m = few_slots c.args.product in search rules
 
-part_how_many_on_end : tie.Need-slice-bounds-how-many-on-end
+part_how_many_on_end : tie.Need-slice_bounds-how_many_on-end
 part_how_many_on_end c =
-    let f = c.before.before.before.before.before.before in
+    let f = c in
     let m = few_slots f.args.product in
     let z = f.requires.0.long in
     search rules
 
-how_many_on_requires : tie.Need-how-many-on-requires
+how_many_on_requires : tie.Need-how_many_on-n-requires
 how_many_on_requires c κs =
-    let m = few_slots c.before.before.before.before.before.before.before.args.product in
+    let m = few_slots c.args.product in
     simp length-take (search rules)
 
 freeze_requires : tie.Need-freeze-requires
 freeze_requires c κs =
-    let z = c.before.before.before.before.before.before.before.before.before.requires.0.long in
+    let z = c.requires.0.long in
     (omega arith, simp length-set (omega arith))
 
-put_number_requires : tie.Need-put-number-requires
+put_number_requires : tie.Need-put_number-requires
 put_number_requires c κs =
-    let f = c.before.before.before.before.before.before.before.before.before.before.before.before.before in
+    let f = c in
     let l = blank_length f.args.out.now f.requires.1 in
     search rules
 
-same_length : tie.Need-same-length
+same_length : tie.Need-shape_of-store
 same_length c =
-    let f = c.before.before.before.before.before.before.before.before.before.before.before.before.before.before.before.before in
-    length_frozen f.args.product f.args.store.now f.requires.0 c.before.before.before.before.before.before.freeze.ensures
+    let f = c in
+    length_frozen f.args.product f.args.store.now f.requires.0 c.freeze.ensures
 
-returns-2 : tie.Need-returns-2
+returns-2 : tie.Need-returns
 returns-2 c =
-    let at_put_number = c.before.before in
-    let frozen = at_put_number.before.before.before.before in
-    let counted = frozen.before.before in
-    let slots = counted.before.before.before in
-    let f = slots.before.before.before.before.before in
+    let at_put_number = c in
+    let frozen = at_put_number in
+    let counted = frozen in
+    let slots = counted in
+    let f = slots in
     let a = f.args in
-    let asked = sym slots.before.before.is_ont_data.ensures ∙ not-false slots.before.if1.false in
-    all_frozen a.product a.store.now f.requires.0 a.class a.number asked frozen.freeze.ensures slots.slots.ensures counted.how_many_on.ensures f.requires.1
+    let asked = sym slots.is_ont_data.ensures ∙ slots.if-not-is_ont_data.false in
+    all_frozen a.product a.store.now f.requires.0 a.class a.number asked frozen.freeze.ensures slots.slots-e.ensures counted.how_many_on-n.ensures f.requires.1
     at_put_number.put_number.ensures
 
 pub all_alarms_spec : {M : Type 1} → statement M

@@ -10,38 +10,38 @@ use Rattle.alarm_walk.proofs.how_many_on.Tie as tie
 use Rattle.alarm_walk.proofs.how_many_on.Reads as reads
 use Rattle.alarm_walk.proofs.how_many_on.Lts as lts
 
-abbrev invariant-loop : tie.invariant-loop
+abbrev invariant-loop : tie.invariant-loop-i
 invariant-loop b n₀ i₀ n i = (i ≤ length b) × (n ≤ i) × (n + count_on (drop i b) ≡ count_on b)
 
-abbrev decreases-loop : tie.decreases-loop
+abbrev decreases-loop : tie.decreases-loop-i
 decreases-loop b n₀ i₀ n i = length b - i
 
-loop-holds : tie.Need-loop-init invariant-loop decreases-loop
+loop-holds : tie.Need-loop-i-init invariant-loop decreases-loop
 loop-holds c = omega arith
 
-shared_slice_read_if1 : tie.Need-shared-slice-read-if1 invariant-loop decreases-loop
+shared_slice_read_if1 : tie.Need-bounds-b-i invariant-loop decreases-loop
 shared_slice_read_if1 c = omega arith
 
-add_n : tie.Need-overflow-add-n invariant-loop decreases-loop
+add_n : tie.Need-overflow_add-n invariant-loop decreases-loop
 add_n c = omega arith
 
-add_i : tie.Need-overflow-add-i invariant-loop decreases-loop
+add_i : tie.Need-overflow_add-i invariant-loop decreases-loop
 add_i c = omega arith
 
-loop-less : tie.Need-loop-smaller invariant-loop decreases-loop
+loop-less : tie.Need-loop-i-smaller invariant-loop decreases-loop
 loop-less c = omega arith
 
-loop-again : tie.Need-loop-preserved invariant-loop decreases-loop
+loop-again : tie.Need-loop-i-preserved invariant-loop decreases-loop
 loop-again c =
-    let l = c.before.before.before in
-    let b = l.before.args.b.now in
+    let l = c in
+    let b = l.args.b.now in
     ⊎_elim
-    (λ w. omega (arith, count_one b l.loop.i (omega arith) w.0.taken))
-    (λ w. omega (arith, count_off b l.loop.i (omega arith) w.0.left))
-    c.if1.branch
+    (λ w. omega (arith, count_one b l.loop-i.i (omega arith) w.if-b-i-ne0.true))
+    (λ w. omega (arith, count_off b l.loop-i.i (omega arith) w.if-b-i-ne0.false))
+    c.if-b-i-ne0.branch-raw
 
 returns : tie.Need-returns invariant-loop decreases-loop
-returns c = omega (arith, count_end c.before.before.args.b.now c.before.loop.i (omega arith))
+returns c = omega (arith, count_end c.args.b.now c.loop-i.i (omega arith))
 
 pub how_many_on_spec : {M : Type 1} → statement M
 how_many_on_spec =

@@ -11,11 +11,11 @@ use Rattle.octets.proofs.put_number.Reads as put_number_reads
 
 returns : tie.Need-returns
 returns c =
-    let a = c.before.before.before.before.before.before.before.before.before.before.before.before.before.before.before.args in
-    let bit = c.before.before.before.before.before.before.before.bit_of in
+    let a = c.args in
+    let bit = c.bit_of in
     notified a.class a.number a.attribute bit.result a.content.now _ bit.ensures (search rules)
-    c.before.before.before.before.before.before.before.before.before.before.before.begin.ensures
-    c.before.before.before.before.before.before.put_number.ensures c.before.before.copy_in.ensures
+    c.begin.ensures
+    c.put_number.ensures c.copy_in.ensures
 
 pub notify_spec : {M : Type 1} → statement M
 notify_spec =

@@ -17,43 +17,40 @@ use Rattle.attribute_tables.proofs.attribute_of.Reads as attribute_of_reads
 use Rattle.table.proofs.instances.locate.Reads as locate_reads
 use borrow.Author.Rules.{rules}
 
-abbrev start : tie.Else1 → tie.Start
-start e = e.before.before.before.before.before.before.before.before.before.before.before.before.before.before
-
 -- what is known where the report isn't dropped
-taken_here : (e : tie.Else1) → let a = (start e).args in
+taken_here : (e : tie.Else-code-ne0) → let a = e.args in
     Taken a.product a.store.now a.reply.now a.class a.number a.attribute a.content.now
-    e.before.before.before.before.before.before.found.given.0.0 e.before.before.before.before.attribute_of.result
+    e.in-At.spot e.attribute_of-a.result
 taken_here e =
-    let f = start e in
+    let f = e in
     let a = f.args in
-    let spot = sym e.before.before.before.before.before.before.before.before.locate.ensures ∙ ap found_of e.before.before.before.before.before.before.found.given.1 in
-    taken a.product a.store.now a.reply.now f.pre.0 a.class a.number a.attribute a.content.now f.fits.number.fits spot
-    (described e.before.before.before.before.attribute_of.ensures) e.before.content_drop.ensures e.if1.false
+    let spot = sym e.locate-found.ensures ∙ ap found_of e.in-At.is in
+    taken a.product a.store.now a.reply.now f.requires.0 a.class a.number a.attribute a.content.now f.ranges.number.fits spot
+    (described e.attribute_of-a.ensures) e.content_drop-code.ensures e.if-code-ne0.false
 
-locate_requires : tie.Need-locate-requires
-locate_requires c κs = let f = c.before.before.before.before.before in live_shaped f.args.product f.args.store.now f.requires.0
+locate_requires : tie.Need-locate-found-requires
+locate_requires c κs = let f = c in live_shaped f.args.product f.args.store.now f.requires.0
 
-content_drop_requires : tie.Need-content-drop-requires
+content_drop_requires : tie.Need-content_drop-code-requires
 content_drop_requires c κs =
-    let f = c.before.before.before.before.before.before.before.before.before.before.before.before in
+    let f = c in
     let a = f.args in
     let shape = live_shaped a.product a.store.now f.requires.0 in
-    let spot = sym c.before.before.before.before.before.before.locate.ensures ∙ ap found_of c.before.before.before.before.found.given.1 in
-    (shape, judgeable (described c.before.before.attribute_of.ensures), spot_room a.product _ shape a.class a.number spot)
+    let spot = sym c.locate-found.ensures ∙ ap found_of c.in-At.is in
+    (shape, judgeable (described c.attribute_of-a.ensures), spot_room a.product _ shape a.class a.number spot)
 
-returns : tie.Need-returns
+returns : tie.Need-returns-then-code-ne0
 returns c =
-    let f = c.before.before.before.before.before.before.before.before.before.before.before.before.before.before in
+    let f = c in
     let a = f.args in
-    let spot = sym c.before.before.before.before.before.before.before.before.locate.ensures ∙ ap found_of c.before.before.before.before.before.before.found.given.1 in
+    let spot = sym c.locate-found.ensures ∙ ap found_of c.in-At.is in
     when_dropped a.product a.store.now a.reply.now f.requires.0 a.class a.number a.attribute a.content.now f.ranges.number.fits spot
-    (described c.before.before.before.before.attribute_of.ensures) c.before.content_drop.ensures c.if1.true
+    (described c.attribute_of-a.ensures) c.content_drop-code.ensures c.if-code-ne0.true
 
-add_write : tie.Need-overflow-add-write
+add_write : tie.Need-overflow_add-spot
 add_write c = let t = (taken_here c.before.before).inside in omega arith
 
-write_requires : tie.Need-write-requires
+write_requires : tie.Need-write-is_new-requires
 write_requires c κs = let t = (taken_here c.before.before).inside in omega arith
 
 notify_requires : tie.Need-notify-requires
@@ -61,21 +58,21 @@ notify_requires c κs =
     let e = c.before.before.before.before.before.before.before.before in
     let t = taken_here e in
     let small = t.short in
-    ((start e).requires.1, t.numbered.0, t.numbered.1, omega arith)
+    (c.requires.1, t.numbered.0, t.numbered.1, omega arith)
 
-returns-2 : tie.Need-returns-2
+returns-2 : tie.Need-returns-then-is_new-a
 returns-2 c =
-    let w = c.before.before.before.before.before.before.before.before in
-    (taken_here w.before.before.before).if_answered w.write.ensures c.before.before.before.before.if2.true c.before.before.notify.ensures
+    let w = c in
+    (taken_here c.before.before.before.before.before.before.before.before.before.before.before).if_answered w.write-is_new.ensures c.if-is_new-a.true c.notify.ensures
 
-returns-3 : tie.Need-returns-3
-returns-3 c = let w = c.before.before.before.before in (taken_here w.before.before.before).if_quiet w.write.ensures c.if2.false
+returns-3 : tie.Need-returns-else-is_new-a
+returns-3 c = let w = c in (taken_here c.before.before.before.before.before.before.before).if_quiet w.write-is_new.ensures c.if-is_new-a.false
 
-returns-4 : tie.Need-returns-4
+returns-4 : tie.Need-returns-in-Nothing
 returns-4 c =
-    let f = c.before.before.before.before.before.before.before.before in
+    let f = c in
     let a = f.args in
-    let spot = sym c.before.before.locate.ensures ∙ ap found_of c.enum_told.given.1 in
+    let spot = sym c.locate-found.ensures ∙ ap found_of c.in-Nothing.is in
     when_missing a.product a.store.now a.reply.now f.requires.0 a.class a.number a.attribute a.content.now f.ranges.number.fits spot
 
 pub report_attribute_spec : {M : Type 1} → statement M

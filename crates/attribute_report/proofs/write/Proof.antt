@@ -13,9 +13,9 @@ use Rattle.octets.proofs.same_bytes.Reads as same_bytes_reads
 
 returns : tie.Need-returns
 returns c =
-    let a = c.before.before.before.before.before.before.before.before.before.args in
+    let a = c.before.args in
     let lent : a.at + length a.v.now - a.at ≡ length a.v.now = omega arith in
-    (c.before.before.copy_in.ensures, ap not (rw lent at c.before.before.before.before.same_bytes.ensures))
+    (c.copy_in.ensures, ap not (rw lent at c.same_bytes-same.ensures))
 
 pub write_spec : {M : Type 1} → statement M
 write_spec =

@@ -14,32 +14,32 @@ use Rattle.get_command.proofs.get_at.Reads as get_at_reads
 use Rattle.octets.proofs.number_at.Reads as number_at_reads
 use Rattle.table.proofs.instances.locate.Reads as locate_reads
 
-locate_requires : tie.Need-locate-requires
+locate_requires : tie.Need-locate-found-requires
 locate_requires c κs = let f = c.before.before.before.before.before in live_shaped f.args.product f.args.store.now f.requires.0
 
-get_at_requires : tie.Need-get-at-requires
+get_at_requires : tie.Need-get_at-requires
 get_at_requires c κs =
-    let f = c.before.before.before.before.before.before.before.before.before.before in
-    let spot = sym c.before.before.before.before.locate.ensures ∙ ap found_of c.before.before.found.given.1 in
+    let f = c.before.before.before.before.before.before.before.before in
+    let spot = sym c.locate-found.ensures ∙ ap found_of c.in-At.is in
     (live_shaped f.args.product f.args.store.now f.requires.0, spot, f.requires.2)
 
-slice_write_out : tie.Need-slice-write-out
-slice_write_out c = let l = zeros_long c.before.before.before.before.before.before.before.before.requires.2 in omega arith
+slice_write_out : tie.Need-bounds-out-0
+slice_write_out c = let l = zeros_long c.requires.2 in omega arith
 
-returns : tie.Need-returns
+returns : tie.Need-returns-in-At
 returns c =
-    let f = c.before.before.before.before.before.before.before.before.before.before.before.before.before in
+    let f = c.before.before.before.before.before.before.before.before.before.before.before in
     let a = f.args in
-    let spot = sym c.before.before.before.before.before.before.before.locate.ensures ∙ ap found_of c.before.before.before.before.before.found.given.1 in
-    let asked = c.before.before.before.before.before.before.before.before.before.number_at.ensures in
-    c.before.before.get_at.ensures
+    let spot = sym c.locate-found.ensures ∙ ap found_of c.in-At.is in
+    let asked = c.number_at-asked.ensures in
+    c.get_at.ensures
     ∙ ap (fill 32) (there a.product a.store.now f.requires.0 a.class a.number f.ranges.number.fits a.v.now spot asked)
 
-returns-2 : tie.Need-returns-2
+returns-2 : tie.Need-returns-in-Nothing
 returns-2 c =
-    let f = c.before.before.before.before.before.before.before.before in
+    let f = c.before.before.before.before.before.before.before in
     let a = f.args in
-    let spot = sym c.before.before.locate.ensures ∙ ap found_of c.enum_told.given.1 in
+    let spot = sym c.locate-found.ensures ∙ ap found_of c.in-Nothing.is in
     result_alone a.out.now _ f.requires.2
     ∙ ap (fill 32) (not_there a.product a.store.now f.requires.0 a.class a.number f.ranges.number.fits a.v.now spot)
 

@@ -15,34 +15,34 @@ use Rattle.get_command.proofs.show.Reads as show_reads
 
 show_requires : tie.Need-show-requires
 show_requires c κs =
-    let f = c.before.before.before.before.before.before in
+    let f = c.before.before.before.before.before in
     let a = f.args in
-    let r = c.before.before.before.get_refusal.ensures in
-    (packable a.product a.b.now a.class a.number a.at a.asked r c.before.enum_told.given.1 f.requires.0 f.requires.1, f.requires.2)
+    let r = c.get_refusal-refusal.ensures in
+    (packable a.product a.b.now a.class a.number a.at a.asked r c.in-Accepted.is f.requires.0 f.requires.1, f.requires.2)
 
-slice_write_out : tie.Need-slice-write-out
-slice_write_out c = let l = zeros_long c.before.before.before.before.before.before.requires.2 in omega arith
+slice_write_out : tie.Need-bounds-out-0
+slice_write_out c = let l = zeros_long c.requires.2 in omega arith
 
-returns : tie.Need-returns
+returns : tie.Need-returns-in-Accepted
 returns c =
-    let f = c.before.before.before.before.before.before.before.before.before in
+    let f = c.before.before.before.before.before.before.before.before in
     let a = f.args in
-    let r = c.before.before.before.before.before.before.get_refusal.ensures in
-    c.before.before.show.ensures ∙ ap (fill 32) (as_told a.product a.b.now a.class a.number a.at a.asked r c.before.before.before.before.enum_told.given.1)
+    let r = c.get_refusal-refusal.ensures in
+    c.show.ensures ∙ ap (fill 32) (as_told a.product a.b.now a.class a.number a.at a.asked r c.in-Accepted.is)
 
-returns-2 : tie.Need-returns-2
+returns-2 : tie.Need-returns-in-Result
 returns-2 c =
-    let f = c.before.before.before.before.before.before in
+    let f = c.before.before.before.before in
     let a = f.args in
-    let r = c.before.before.before.get_refusal.ensures in
-    result_alone a.out.now _ f.requires.2 ∙ ap (fill 32) (as_told a.product a.b.now a.class a.number a.at a.asked r c.before.refusal.given.1)
+    let r = c.get_refusal-refusal.ensures in
+    result_alone a.out.now _ f.requires.2 ∙ ap (fill 32) (as_told a.product a.b.now a.class a.number a.at a.asked r c.in-Result.is)
 
-returns-3 : tie.Need-returns-3
+returns-3 : tie.Need-returns-in-Unsupported
 returns-3 c =
-    let f = c.before.before.before.before.before.before.before.before.before.before in
+    let f = c.before.before.before.before.before.before.before.before in
     let a = f.args in
-    let r = c.before.before.before.before.before.before.before.get_refusal.ensures in
-    c.before.before.refuse.ensures ∙ ap (fill 32) (as_told a.product a.b.now a.class a.number a.at a.asked r c.before.before.before.before.before.refusal2.given.1)
+    let r = c.get_refusal-refusal.ensures in
+    c.refuse.ensures ∙ ap (fill 32) (as_told a.product a.b.now a.class a.number a.at a.asked r c.in-Unsupported.is)
 
 pub get_at_spec : {M : Type 1} → statement M
 get_at_spec =

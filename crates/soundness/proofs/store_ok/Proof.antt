@@ -16,7 +16,7 @@ returns-2 c =
     let s = start.args.s.now in
     let bs = known_bytes s (λ i. (start.shared_slice_known-1.given i).fits) in
     c.parts_ok.ensures
-    ∙ sym (product_tested c.in-Is.field-0 s bs called.if-s-lt-STORE.false (sym (called.product_at-named.ensures.its_number c.in-Is.field-0 c.in-Is.is)))
+    ∙ sym (product_tested c.in-Is.product s bs called.if-s-lt-STORE.false (sym (called.product_at-named.ensures.its_number c.in-Is.product c.in-Is.is)))
 
 returns-3 : tie.Need-returns-in-Nothing
 returns-3 c =

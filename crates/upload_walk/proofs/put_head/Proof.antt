@@ -10,7 +10,7 @@ returns c =
     let first = second.before.before.before.before in
     let s = first.before.before.before in
     let a = s.args in
-    head_written a.class a.number a.mask a.out.now _ _ _ s.requires first.put_number.ensures second.put_number2.ensures third.put_number3.ensures
+    head_written a.class a.number a.mask a.out.now _ _ _ s.requires first.put_number.ensures second.put_number-2.ensures third.put_number-3.ensures
 
 pub put_head_spec : {M : Type 1} → statement M
 put_head_spec =
