@@ -16,56 +16,56 @@ use Rattle.upload_walk.proofs.upload_next.Reads as upload_next_reads
 
 command_requires : tie.Need-command-requires
 command_requires c κs =
-    let at_match = c.before.before in
-    let entry = at_match.before.before.before.before in
+    let at_match = c in
+    let entry = at_match in
     let a = entry.args in
     let pre = entry.requires in
-    (pre.0, not_a_walk a.kind at_match.match.rest.0.0.0.1 at_match.match.rest.0.0.1 at_match.match.rest.0.1 at_match.match.rest.1, pre.1, pre.2)
+    (pre.0, not_a_walk a.kind at_match.in_default.in_default-own.rest.0.0.0.1 at_match.in_default.in_default-own.rest.0.0.1 at_match.in_default.in_default-own.rest.0.1 at_match.in_default.in_default-own.rest.1, pre.1, pre.2)
 
-returns : tie.Need-returns
+returns : tie.Need-returns-in-11
 returns c =
-    let at_all_alarms = c.before.before.before.before in
-    let at_match = at_all_alarms.before.before.before in
-    let entry = at_match.before.before.before.before in
+    let at_all_alarms = c in
+    let at_match = at_all_alarms in
+    let entry = at_match in
     let a = entry.args in
     let pre = entry.requires in
     named_so a.product
-    (number_is (cat_of a.product) (state_in a.product a.store.now) a.class a.number a.v.now a.kind 11 _ at_match.match.keys1
+    (number_is (cat_of a.product) (state_in a.product a.store.now) a.class a.number a.v.now a.kind 11 _ at_match.in-11.is
     (by_all_alarms (cat_of a.product) (state_in a.product a.store.now) a.class a.number a.v.now)) at_all_alarms.all_alarms.ensures
 
-returns-2 : tie.Need-returns-2
+returns-2 : tie.Need-returns-in-12
 returns-2 c =
-    let at_alarms_next = c.before.before in
-    let at_match = at_alarms_next.before.before.before in
-    let entry = at_match.before.before.before.before in
+    let at_alarms_next = c in
+    let at_match = at_alarms_next in
+    let entry = at_match in
     let a = entry.args in
     let pre = entry.requires in
     named_so a.product
-    (number_is (cat_of a.product) (state_in a.product a.store.now) a.class a.number a.v.now a.kind 12 _ at_match.match.keys2
+    (number_is (cat_of a.product) (state_in a.product a.store.now) a.class a.number a.v.now a.kind 12 _ at_match.in-12.is
     (by_alarms_next (cat_of a.product) (state_in a.product a.store.now) a.class a.number a.v.now))
     (only_says a.product a.store.now pre.0 _ _ (alarms_next_keeps (cat_of a.product) (state_in a.product a.store.now) a.class a.number a.v.now)
     at_alarms_next.alarms_next.ensures)
 
-returns-3 : tie.Need-returns-3
+returns-3 : tie.Need-returns-in-13
 returns-3 c =
-    let at_upload = c.before.before.before.before in
-    let at_match = at_upload.before.before.before in
-    let entry = at_match.before.before.before.before in
+    let at_upload = c in
+    let at_match = at_upload in
+    let entry = at_match in
     let a = entry.args in
     let pre = entry.requires in
     named_so a.product
-    (number_is (cat_of a.product) (state_in a.product a.store.now) a.class a.number a.v.now a.kind 13 _ at_match.match.keys3
+    (number_is (cat_of a.product) (state_in a.product a.store.now) a.class a.number a.v.now a.kind 13 _ at_match.in-13.is
     (by_upload (cat_of a.product) (state_in a.product a.store.now) a.class a.number a.v.now)) at_upload.upload.ensures
 
-returns-4 : tie.Need-returns-4
+returns-4 : tie.Need-returns-in-14
 returns-4 c =
-    let at_upload_next = c.before.before in
-    let at_match = at_upload_next.before.before.before in
-    let entry = at_match.before.before.before.before in
+    let at_upload_next = c in
+    let at_match = at_upload_next in
+    let entry = at_match in
     let a = entry.args in
     let pre = entry.requires in
     named_so a.product
-    (number_is (cat_of a.product) (state_in a.product a.store.now) a.class a.number a.v.now a.kind 14 _ at_match.match.keys4
+    (number_is (cat_of a.product) (state_in a.product a.store.now) a.class a.number a.v.now a.kind 14 _ at_match.in-14.is
     (by_upload_next (cat_of a.product) (state_in a.product a.store.now) a.class a.number a.v.now))
     (only_says a.product a.store.now pre.0 _ _ (upload_next_keeps (cat_of a.product) (state_in a.product a.store.now) a.class a.number a.v.now)
     at_upload_next.upload_next.ensures)
