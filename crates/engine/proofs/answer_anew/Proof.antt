@@ -12,12 +12,12 @@ use Rattle.remembered_command.proofs.remember.Reads as remember_reads
 
 perform_requires : tie.Need-perform-requires
 perform_requires c κs =
-    let n = c.before.before.before.before.before.before in
-    let a = n.before.before.before.before.before.before.before.before.args in
-    let pre = n.before.before.before.before.before.before.before.before.requires in
-    let bs = known_bytes a.m.now (λ i. (n.before.before.before.before.before.before.shared_slice_known.given i).fits) in
+    let n = c in
+    let a = n.args in
+    let pre = n.requires in
+    let bs = known_bytes a.m.now (λ i. (n.shared_slice_known-1.given i).fits) in
     let begun = begun_as a.product a.store.now a.m.now a.reply.now pre.0 bs pre.1 _ _ _ _
-    n.number_at3.ensures n.before.before.before.number_at.ensures n.before.before.number_at2.ensures c.before.before.before.before.before.begin.ensures in (
+    n.number_at.ensures n.number_at-class.ensures n.number_at-number.ensures c.begin.ensures in (
       pre.0,
       contents_long a.product a.store.now a.m.now a.reply.now pre.0 bs pre.1,
       begun_blank a.product a.store.now a.m.now a.reply.now pre.0 bs pre.1 _ begun,
@@ -25,17 +25,17 @@ perform_requires c κs =
 
 returns : tie.Need-returns
 returns c =
-    let p = c.before.before.before.before.before.before.before.before.before in
-    let n = p.before.before.before.before.before.before.before in
-    let a = n.before.before.before.before.before.before.before.before.args in
-    let pre = n.before.before.before.before.before.before.before.before.requires in
-    let bs = known_bytes a.m.now (λ i. (n.before.before.before.before.before.before.shared_slice_known.given i).fits) in
-    let class_read = n.before.before.before.number_at.ensures in
-    let number_read = n.before.before.number_at2.ensures in
+    let p = c in
+    let n = p in
+    let a = n.args in
+    let pre = n.requires in
+    let bs = known_bytes a.m.now (λ i. (n.shared_slice_known-1.given i).fits) in
+    let class_read = n.number_at-class.ensures in
+    let number_read = n.number_at-number.ensures in
     let begun = begun_as a.product a.store.now a.m.now a.reply.now pre.0 bs pre.1 _ _ _ _
-    n.number_at3.ensures class_read number_read p.before.before.before.before.before.before.begin.ensures in
+    n.number_at.ensures class_read number_read p.begin.ensures in
     let done = answering_as a.product a.store.now a.m.now a.reply.now pre.0 bs pre.1 _ _ _ _ class_read number_read p.perform.ensures in
-    answered_and_remembered a.product a.store.now a.m.now a.reply.now pre.0 bs pre.1 begun done c.before.before.remember.ensures
+    answered_and_remembered a.product a.store.now a.m.now a.reply.now pre.0 bs pre.1 begun done c.remember.ensures
 
 pub answer_anew_spec : {M : Type 1} → statement M
 answer_anew_spec =

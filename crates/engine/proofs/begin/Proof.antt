@@ -10,34 +10,34 @@ use Rattle.class_tables.proofs.built.product_at.Reads as product_at_reads
 use Rattle.soundness.proofs.store_ok.Reads as store_ok_reads
 use Rattle.rules.proofs.Laws.{not-true, not-false}
 
-returns : tie.Need-returns
+returns : tie.Need-returns-then-room-lt-REPLY
 returns c =
-    let a = c.before.before.args in
-    no_room a.room a.store.now c.if1.true
+    let a = c.args in
+    no_room a.room a.store.now c.if-room-lt-REPLY.true
 
-returns-2 : tie.Need-returns-2
+returns-2 : tie.Need-returns-then-not-store_ok
 returns-2 c =
-    let a = c.before.before.before.before.args in
-    not_sound a.room a.store.now c.before.before.if1.false (sym c.before.store_ok.ensures ∙ not-true c.if2.true)
+    let a = c.args in
+    not_sound a.room a.store.now c.if-room-lt-REPLY.false (sym c.store_ok.ensures ∙ c.if-not-store_ok.true)
 
-shared_slice_read_product_at : tie.Need-shared-slice-read-product-at
+shared_slice_read_product_at : tie.Need-bounds-store-0
 shared_slice_read_product_at c =
-    let long = sound_long c.before.before.before.before.before.args.store.now (sym c.before.before.store_ok.ensures ∙ not-false c.before.if2.false) in
+    let long = sound_long c.args.store.now (sym c.store_ok.ensures ∙ c.if-not-store_ok.false) in
     omega arith
 
-returns-3 : tie.Need-returns-3
+returns-3 : tie.Need-returns-in-Is
 returns-3 c =
-    let e = c.before.before.before.before.before in
-    let a = e.before.before.before.before.args in
-    let s = sym e.before.store_ok.ensures ∙ not-false e.if2.false in
-    enters a.room a.store.now e.before.before.if1.false _ (opened_as a.store.now s c.before.before.before.product_at.ensures _ c.before.named.given.1)
+    let e = c.before.before.before in
+    let a = e.args in
+    let s = sym e.store_ok.ensures ∙ e.if-not-store_ok.false in
+    enters a.room a.store.now e.if-room-lt-REPLY.false _ (opened_as a.store.now s c.product_at-named.ensures _ c.in-Is.is)
 
-returns-4 : tie.Need-returns-4
+returns-4 : tie.Need-returns-in-Nothing
 returns-4 c =
-    let e = c.before.before.before.before in
-    let a = e.before.before.before.before.args in
-    let s = sym e.before.store_ok.ensures ∙ not-false e.if2.false in
-    is_named a.store.now s c.before.before.product_at.ensures c.enum_told.given.1
+    let e = c.before.before.before in
+    let a = e.args in
+    let s = sym e.store_ok.ensures ∙ e.if-not-store_ok.false in
+    is_named a.store.now s c.product_at-named.ensures c.in-Nothing.is
 
 pub begin_spec : {M : Type 1} → statement M
 begin_spec =

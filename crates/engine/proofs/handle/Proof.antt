@@ -9,24 +9,24 @@ use Rattle.engine.proofs.handle.Lts as lts
 use Rattle.engine.proofs.begin.Reads as begin_reads
 use Rattle.engine.proofs.take_message.Reads as take_message_reads
 
-take_message_requires : tie.Need-take-message-requires
+take_message_requires : tie.Need-take_message-requires
 take_message_requires c κs =
-    let found = c.before.before.before.entry.given.1 in
-    let enters = c.before.before.before.before.before.begin.ensures in
+    let found = c.in-To.is in
+    let enters = c.begin-entry.ensures in
     ((enters.opened _ found).its_sound, enters.has_room _ found)
 
-returns : tie.Need-returns
+returns : tie.Need-returns-in-To
 unfolding taken
 returns c =
-    let a = c.before.before.before.before.before.before.before.before.before.before.before.before.before.before.before.args in
-    let found = c.before.before.before.before.before.before.before.before.entry.given.1 in
-    let enters = c.before.before.before.before.before.before.before.before.before.before.begin.ensures in
-    c.before.before.before.before.take_message.ensures ∙ taken_in (message a.m.now) a.store.now a.reply.now _ (enters.has_room _ found) (enters.opened _ found)
+    let a = c.before.args in
+    let found = c.in-To.is in
+    let enters = c.begin-entry.ensures in
+    c.take_message.ensures ∙ taken_in (message a.m.now) a.store.now a.reply.now _ (enters.has_room _ found) (enters.opened _ found)
 
-returns-2 : tie.Need-returns-2
+returns-2 : tie.Need-returns-in-Dropped
 returns-2 c =
-    let a = c.before.before.before.before.before.before.before.before.args in
-    first_dropped (message a.m.now) a.store.now a.reply.now (c.before.before.before.begin.ensures.dropped _ c.before.entry2.given.1)
+    let a = c.before.args in
+    first_dropped (message a.m.now) a.store.now a.reply.now (c.begin-entry.ensures.dropped _ c.in-Dropped.is)
 
 pub handle_spec : {M : Type 1} → statement M
 handle_spec =

@@ -9,28 +9,28 @@ use Rattle.engine.proofs.report_alarm.Lts as lts
 use Rattle.alarm_report.proofs.report_alarm.Reads as report_alarm_reads
 use Rattle.engine.proofs.begin.Reads as begin_reads
 
-report_alarm_requires : tie.Need-report-alarm-requires
+report_alarm_requires : tie.Need-report_alarm-requires
 report_alarm_requires c κs =
-    let found = c.before.before.before.entry.given.1 in
-    let enters = c.before.before.before.before.before.begin.ensures in
+    let found = c.in-To.is in
+    let enters = c.begin-entry.ensures in
     ((enters.opened _ found).its_sound, enters.has_room _ found)
 
-returns : tie.Need-returns
+returns : tie.Need-returns-in-To
 unfolding taken
 returns c =
     let at_report_alarm = c.before.before.before.before in
-    let at_entry_lem = at_report_alarm.before.before.before.before in
-    let at_begin = at_entry_lem.before.before in
-    let entry' = at_begin.before.before.before.before in
+    let at_entry_lem = at_report_alarm.before.before.before in
+    let at_begin = at_entry_lem.before in
+    let entry' = at_begin.before in
     let a = entry'.args in
-    let found = at_entry_lem.entry.given.1 in
-    let enters = at_begin.begin.ensures in
+    let found = at_entry_lem.in-To.is in
+    let enters = at_begin.begin-entry.ensures in
     at_report_alarm.report_alarm.ensures ∙ taken_in (alarm_report a.class a.number a.alarm a.on) a.store.now a.reply.now _ (enters.has_room _ found) (enters.opened _ found)
 
-returns-2 : tie.Need-returns-2
+returns-2 : tie.Need-returns-in-Dropped
 returns-2 c =
-    let a = c.before.before.before.before.before.before.before.args in
-    first_dropped (alarm_report a.class a.number a.alarm a.on) a.store.now a.reply.now (c.before.before.before.begin.ensures.dropped _ c.before.entry2.given.1)
+    let a = c.before.args in
+    first_dropped (alarm_report a.class a.number a.alarm a.on) a.store.now a.reply.now (c.begin-entry.ensures.dropped _ c.in-Dropped.is)
 
 pub report_alarm_spec : {M : Type 1} → statement M
 report_alarm_spec =

@@ -11,41 +11,41 @@ use Rattle.message_frame.proofs.message_drop.Reads as message_drop_reads
 use Rattle.remembered_command.proofs.is_repeat.Reads as is_repeat_reads
 use Rattle.remembered_command.proofs.recall.Reads as recall_reads
 
-returns : tie.Need-returns
+returns : tie.Need-returns-then-code-ne0
 returns c =
-    let a = c.before.before.before.before.before.args in
-    dropped_as a.product a.store.now a.m.now a.reply.now c.before.before.before.before.before.requires.0 _ c.before.message_drop.ensures c.if1.true
+    let a = c.args in
+    dropped_as a.product a.store.now a.m.now a.reply.now c.requires.0 _ c.message_drop-code.ensures c.if-code-ne0.true
 
-is_repeat_requires : tie.Need-is-repeat-requires
+is_repeat_requires : tie.Need-is_repeat-requires
 is_repeat_requires c κs =
-    let a = c.before.before.before.before.before.before.before.args in
-    let l = not_dropped_long a.m.now (sym c.before.before.if1.false ∙ c.before.before.before.message_drop.ensures) in
-    (memory_whole a.product a.store.now a.m.now a.reply.now c.before.before.before.before.before.before.before.requires.0, omega arith)
+    let a = c.args in
+    let l = not_dropped_long a.m.now (sym c.if-code-ne0.false ∙ c.message_drop-code.ensures) in
+    (memory_whole a.product a.store.now a.m.now a.reply.now c.requires.0, omega arith)
 
-answer_anew_requires : tie.Need-answer-anew-requires
+answer_anew_requires : tie.Need-answer_anew-requires
 answer_anew_requires c κs =
-    let e = c.before.before.before.before.before.before in (
-      e.before.before.before.before.before.requires.0,
-      not_dropped_long e.before.before.before.before.before.args.m.now
-          (sym e.if1.false ∙ e.before.message_drop.ensures),
-      e.before.before.before.before.before.requires.1,
+    let e = c in (
+      e.requires.0,
+      not_dropped_long e.args.m.now
+          (sym e.if-code-ne0.false ∙ e.message_drop-code.ensures),
+      e.requires.1,
     )
 
-returns-2 : tie.Need-returns-2
+returns-2 : tie.Need-returns-then-is_repeat
 returns-2 c =
-    let e = c.before.before.before.before.before.before.before.before.before.before in
-    let a = e.before.before.before.before.before.args in
-    let clear = sym e.if1.false ∙ e.before.message_drop.ensures in
-    let again = sym c.before.before.before.before.before.before.before.is_repeat.ensures ∙ c.before.before.before.before.before.before.if2.true in
-    answered_again a.product a.store.now a.m.now a.reply.now e.before.before.before.before.before.requires.0 clear again c.before.before.recall.ensures
+    let e = c in
+    let a = e.args in
+    let clear = sym e.if-code-ne0.false ∙ e.message_drop-code.ensures in
+    let again = sym c.is_repeat.ensures ∙ c.if-is_repeat.true in
+    answered_again a.product a.store.now a.m.now a.reply.now e.requires.0 clear again c.recall.ensures
 
-returns-3 : tie.Need-returns-3
+returns-3 : tie.Need-returns-else-is_repeat
 returns-3 c =
-    let e = c.before.before.before.before.before.before.before.before.before.before.before in
-    let a = e.before.before.before.before.before.args in
-    let clear = sym e.if1.false ∙ e.before.message_drop.ensures in
-    let new = sym c.before.before.before.before.before.before.before.before.is_repeat.ensures ∙ c.before.before.before.before.before.before.before.if2.false in
-    c.before.before.before.before.answer_anew.ensures ∙ answered_anew a.product a.store.now a.m.now a.reply.now e.before.before.before.before.before.requires.0 clear new
+    let e = c in
+    let a = e.args in
+    let clear = sym e.if-code-ne0.false ∙ e.message_drop-code.ensures in
+    let new = sym c.is_repeat.ensures ∙ c.if-is_repeat.false in
+    c.answer_anew.ensures ∙ answered_anew a.product a.store.now a.m.now a.reply.now e.requires.0 clear new
 
 pub take_message_spec : {M : Type 1} → statement M
 take_message_spec =

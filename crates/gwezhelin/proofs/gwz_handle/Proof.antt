@@ -8,7 +8,7 @@ use Rattle.engine.proofs.handle.Reads as handle_reads
 use Rattle.gwezhelin.proofs.number.Reads as number_reads
 
 returns : tie.Need-returns
-returns c = told c.before.before.before.before.before.handle.result _ _ _ _ c.number.ensures c.before.before.before.before.before.handle.ensures
+returns c = told c.handle.result _ _ _ _ c.number.ensures c.handle.ensures
 
 pub gwz_handle_spec : {M : Type 1} → statement M
 gwz_handle_spec =

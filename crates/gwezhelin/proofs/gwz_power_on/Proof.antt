@@ -8,7 +8,7 @@ use Rattle.engine.proofs.power_on.Reads as power_on_reads
 use Rattle.gwezhelin.proofs.start_number.Reads as start_number_reads
 
 returns : tie.Need-returns
-returns c = start_told c.before.before.before.power_on.result _ _ _ c.start_number.ensures c.before.before.before.power_on.ensures
+returns c = start_told c.power_on.result _ _ _ c.start_number.ensures c.power_on.ensures
 
 pub gwz_power_on_spec : {M : Type 1} → statement M
 gwz_power_on_spec =

@@ -8,7 +8,7 @@ use Rattle.engine.proofs.report_alarm.Reads as report_alarm_reads
 use Rattle.gwezhelin.proofs.number.Reads as number_reads
 
 returns : tie.Need-returns
-returns c = told c.before.before.before.before.before.report_alarm.result _ _ _ _ c.number.ensures c.before.before.before.before.before.report_alarm.ensures
+returns c = told c.report_alarm.result _ _ _ _ c.number.ensures c.report_alarm.ensures
 
 pub gwz_report_alarm_spec : {M : Type 1} → statement M
 gwz_report_alarm_spec =

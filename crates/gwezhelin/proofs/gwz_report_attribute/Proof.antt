@@ -8,7 +8,7 @@ use Rattle.engine.proofs.report_attribute.Reads as report_attribute_reads
 use Rattle.gwezhelin.proofs.number.Reads as number_reads
 
 returns : tie.Need-returns
-returns c = told c.before.before.before.before.before.report_attribute.result _ _ _ _ c.number.ensures c.before.before.before.before.before.report_attribute.ensures
+returns c = told c.report_attribute.result _ _ _ _ c.number.ensures c.report_attribute.ensures
 
 pub gwz_report_attribute_spec : {M : Type 1} → statement M
 gwz_report_attribute_spec =
