@@ -23,3 +23,5 @@ pub mod Messages
 pub mod Runs
 pub mod Composes
 pub mod Itself
+pub mod Beginnings
+pub mod MatchedRuns
