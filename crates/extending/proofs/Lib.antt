@@ -25,3 +25,4 @@ pub mod Composes
 pub mod Itself
 pub mod Beginnings
 pub mod MatchedRuns
+pub mod RisingParts
