@@ -2,3 +2,4 @@ pub mod Entered
 pub mod Repeated
 pub mod Replied
 pub mod OneOutcome
+pub mod FixedOutcomes

@@ -23,3 +23,6 @@ pub mod Messages
 pub mod Runs
 pub mod Composes
 pub mod Itself
+pub mod Beginnings
+pub mod MatchedRuns
+pub mod RisingParts

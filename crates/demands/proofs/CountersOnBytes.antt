@@ -25,7 +25,8 @@ use Rattle.legality.proofs.Outcomes.{sent}
 use Rattle.demands.specs.Sent.{number_at}
 use Rattle.demands.specs.Counting.{OneOn, sync_counter}
 use Rattle.demands.proofs.Counting.{the_next_number_is_one_on}
-use Rattle.demands.proofs.DemandOne.{an_answered_call_has_room_and_a_state, the_outcome_is_the_rules, the_store_holds_what_the_rules_leave}
+use Rattle.demands.proofs.LentMemories.{an_answered_call_has_room_and_a_state}
+use Rattle.demands.proofs.DemandOne.{the_outcome_is_the_rules, the_store_holds_what_the_rules_leave}
 use Rattle.demands.proofs.AnsweredOnBytes.{AnsweredAnew, LeavesAStateThat}
 use Rattle.demands.proofs.SetsOnBytes.{an_accepted_set_does_what_its_bytes_say}
 use Rattle.demands.proofs.CreatesOnBytes.{what_an_accepted_create_does, what_an_accepted_delete_does}

@@ -35,12 +35,12 @@ use Rattle.legality.proofs.Tables.{LegalTable, close_table, frozen_legal}
 use Rattle.extending.specs.Promise.{within_the_promise, SameOutcome, SameUpload}
 use Rattle.extending.specs.Matched.{BothMatch, MatchedMemory, MatchedState}
 use Rattle.extending.proofs.Uploads.{frozen_match, same_upload}
-use Rattle.extending.proofs.Runs.{stepped, an_extension_s_state_matches}
+use Rattle.extending.proofs.MatchedRuns.{stepped, an_extension_s_state_matches}
 use Rattle.extending.proofs.Beginnings.{what_begins_a_run_within_the_promise_is_within_it, the_rest_of_a_run_within_the_promise_is_within_it, bytes_of_both, after_both}
 use Rattle.demands.specs.Lending.{lend, memory_after, memory_after_all}
 use Rattle.demands.specs.Between.{EachStep, EachLent, is_dropped, asks_for_an_upload, LeavesUploads, LeavesWalksOn}
 use Rattle.demands.specs.Sent.{number_at, mask_names, shown_in_section}
-use Rattle.demands.proofs.Accident.{whatever_comes_in_between_the_upload_stays}
+use Rattle.demands.proofs.FrozenInBetween.{whatever_comes_in_between_the_upload_stays}
 use Rattle.demands.proofs.Between.{each_lent_call_is_a_step, leaves_walks_on_its_state}
 use Rattle.demands.proofs.AnsweredOnBytes.{its_length}
 use Rattle.demands.proofs.AskedAnew.{AskedAnew, its_reply_is, its_step_is, anew_on_lent_bytes, NextAskedAnew, there_is_a_next}
@@ -227,7 +227,7 @@ module _ (first second : Catalogue) (wf : WellFormed first) (wf' : WellFormed se
   each_leaves_too s z h h' mt (p ∷ l) b w each =
       let x = stepped first second wf wf' ext s z h h' mt p l b.0 w in (
         leaves_too s z mt p.call _ _ x.0.result.outcomes each.0,
-        each_leaves_too _ _ x.0.first_legal x.0.second_legal x.0.result.states l b.1 x.1 each.1,
+        each_leaves_too (step first s p).0 (step second z p).0 x.0.first_legal x.0.second_legal x.0.result.states l b.1 x.1 each.1,
       )
 
 -- ---- demand 3's uploads

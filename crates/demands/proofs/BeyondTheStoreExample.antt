@@ -9,7 +9,7 @@ use Rattle.rules.specs.State.{contents}
 use Rattle.rules.specs.Run.{Input, alarm_report, fresh, after}
 use Rattle.rules.specs.Products.{any, RC, for_created, ont_data_class}
 use Rattle.rules.proofs.Examples.{call, command, tell, computing}
-use Rattle.products.proofs.Labelled.{labelled_class, Labelled}
+use Rattle.demands.proofs.Labelled.{labelled_class, Labelled}
 
 -- the sync counter is set to 5, and then the label beside it to 7
 unfoldable pub set_the_counter : Input

@@ -7,10 +7,9 @@ use mathlib.Core.List.{List, [], ◌∷◌, ◌++◌}
 use lib.Dec.{eqb, ltb}
 use Rattle.rules.specs.Maps.{among, all, those}
 use Rattle.rules.specs.Masks.{total}
-use Rattle.rules.proofs.Laws.{cases, never, false_not, or_cases, or_right, both, eqb_eq, le-ltb, among_here}
+use Rattle.rules.proofs.Laws.{cases, never, not-true, false_not, or_cases, or_right, both, eqb_eq, le-ltb, among_here}
 use Rattle.rules.proofs.MapLaws.{Up, up_weaken, up_among, among_past, among_back}
 use Rattle.rules.proofs.Standing.{all_imp, all_self}
-use Rattle.extending.proofs.Itself.{those_none}
 
 -- ---- lists with the same numbers
 
@@ -35,6 +34,12 @@ same_members a b (x ∷ l) (y ∷ m) u w f g =
     (same_rest x l m u.1 (rw e at f)) (same_rest x m l w' (rw e at g))))
 
 -- ---- those that pass a test before those that don't
+
+-- none passes
+none_of_those : (p : ℕ → Bool) (l : List ℕ) → all (λ n. not (p n)) l ≡ true → those p l ≡ []
+unfolding those all
+none_of_those p [] h = refl
+none_of_those p (n ∷ l) h = let t : p n ≡ false = not-true (both h).0 in rw t (none_of_those p l (both h).1)
 
 pub up_those : (p : ℕ → Bool) (b : ℕ) (l : List ℕ) → Up b l → Up b (those p l)
 unfolding those
@@ -62,7 +67,7 @@ in_two_parts p b (x ∷ l) u f = cases (p x)
     (λ s. let above : suc x ≤ n = up_among (suc x) n l u.1 h in let below : n < x = f n x (or_right (eqb n x) h) s (among_here x l) t in absurd (omega arith))
     (λ s. s) in
     let fail : all (λ n. not (p n)) l ≡ true = all_of (λ n. not (p n)) l (λ n h. false_not (None_passes n h)) in
-    rw (t, those_none p l fail, those_all (λ n. not (p n)) l fail) refl)
+    rw (t, none_of_those p l fail, those_all (λ n. not (p n)) l fail) refl)
 
 -- numbers in front are below those behind
 pub front_below_back : (b : ℕ) (l m : List ℕ) → Up b (l ++ m) → (x y : ℕ) → among x l ≡ true → among y m ≡ true → x < y

@@ -6,14 +6,16 @@ use mathlib.Core.Option.{some}
 use mathlib.Core.List.{List, [], ◌∷◌, ◌++◌}
 use lib.ListN.{length}
 use Rattle.demands.specs.Sent.{number_at}
-use Rattle.demands.proofs.AccidentOnBytes.{another_id}
+use Rattle.demands.proofs.FrozenOnBytes.{another_id}
 use Rattle.rules.specs.Bytes.{bytes}
 use Rattle.rules.specs.Messages.{framed}
+use Rattle.rules.specs.Maps.{find}
 use Rattle.rules.specs.Run.{Input, message, attribute_report, store_length, step, fresh, after}
 use Rattle.rules.specs.Products.{Small, Large, built_products}
 use Rattle.rules.proofs.Laws.{◌&◌}
 use Rattle.rules.proofs.MapLaws.{some_eq}
 use Rattle.rules.proofs.Examples.{call, command, bridge, computing}
+use Rattle.products.proofs.Extends.{large_extends_small}
 use Rattle.store.specs.Decode.{Held, decode}
 use Rattle.store.proofs.Built.{built_products_fit}
 use Rattle.legality.proofs.Kept.{AllOfBytes}
@@ -23,8 +25,15 @@ use Rattle.demands.specs.Repeating.{IsNoRepeat}
 use Rattle.demands.proofs.AskedAnew.{NextAskedAnew, there_is_a_next}
 use Rattle.demands.proofs.RunsOnBytes.{a_lent_call_is_the_rules}
 use Rattle.demands.proofs.DemandThreeExample.{port}
-use Rattle.demands.proofs.UploadsOfBoth.{memory_of, holds_after_the_run, UploadAskedOfBoth, SecondSendsAll}
-use Rattle.demands.proofs.ProductPairs.{small_is_1, large_does_all_of_small}
+use Rattle.demands.proofs.UploadsOfBoth.{memory_of, holds_after_the_run, UploadAskedOfBoth, SecondSendsAll, what_the_first_s_upload_sends_the_second_s_sends}
+
+small_is_1 : find 1 built_products ≡ some Small
+unfolding computing
+small_is_1 = refl
+
+large_is_2 : find 2 built_products ≡ some Large
+unfolding computing
+large_is_2 = refl
 
 -- a bridge with a port is made
 unfoldable pub a_bridge_with_a_port : List Input
@@ -93,5 +102,5 @@ a_next_of_small_for_each_section a long index below = there_is_a_next built_prod
 -- So whatever Small's upload sends, Large's sends.
 pub large_sends_what_small_sends : (a b : List ℕ) → store_length ≤ length a → store_length ≤ length b
     → SecondSendsAll built_products 1 2 Small Large a b a_bridge_with_a_port (call (message an_upload)) meanwhile small_s_count
-large_sends_what_small_sends a b a_long b_long = large_does_all_of_small.sends a b a_bridge_with_a_port (call (message an_upload)) meanwhile an_upload small_s_count
-    (the_assumptions_are_met a b a_long b_long)
+large_sends_what_small_sends a b a_long b_long = what_the_first_s_upload_sends_the_second_s_sends built_products built_products_fit 1 2 Small Large small_is_1 large_is_2
+    large_extends_small a b a_bridge_with_a_port (call (message an_upload)) meanwhile an_upload small_s_count (the_assumptions_are_met a b a_long b_long)

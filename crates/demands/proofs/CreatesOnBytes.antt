@@ -29,7 +29,8 @@ use Rattle.rules.proofs.Standing.{key_class, key_number}
 use Rattle.legality.proofs.LegalStates.{open_state}
 use Rattle.legality.proofs.Tables.{LegalLive}
 use Rattle.legality.proofs.NewContents.{C_is_stored, attributes_in_order}
-use Rattle.legality.proofs.Carried.{carried_is_C, C_in_carried, carried_fits}
+use Rattle.legality.proofs.Carried.{carried_is_C, C_in_carried}
+use Rattle.demands.proofs.Carried.{carried_fits}
 use Rattle.store.specs.Decode.{Held}
 use Rattle.store.specs.Fitting.{AllFit}
 use Rattle.demands.specs.Sent.{number_at, sent_in_create}

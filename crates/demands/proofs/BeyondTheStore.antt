@@ -29,7 +29,7 @@ use Rattle.demands.proofs.SentLaws.{named_are}
 use Rattle.demands.proofs.DemandOne.{a_call_drops_as_its_list_says}
 use Rattle.demands.proofs.NotRefused.{above_0, not_refused, does_its_own}
 use Rattle.demands.proofs.ContentLaws.{others_stay}
-use Rattle.demands.proofs.AccidentOnBytes.{answered_anew}
+use Rattle.demands.proofs.FrozenInBetween.{answered_anew}
 use Rattle.demands.proofs.AnsweredOnBytes.{two_in_contents}
 use Rattle.demands.proofs.CreatesOnBytes.{TakesItsAlarms, their_alarms_go}
 

@@ -20,7 +20,7 @@ use Rattle.store.specs.Decode.{Held, decode}
 use Rattle.store.proofs.EntryExamples.{small_store, room, create_bridge, create_reply}
 use Rattle.demands.specs.Sent.{mask_names, bytes_before}
 use Rattle.demands.specs.Lending.{lend, memory_after, memory_after_all}
-use Rattle.demands.proofs.AccidentOnBytes.{another_id, UploadThenFetch}
+use Rattle.demands.proofs.FrozenOnBytes.{another_id, UploadThenFetch}
 use Rattle.demands.proofs.AccidentExample.{trailer_of_8, ask, fetch_0}
 use Rattle.demands.proofs.AnsweredOnBytes.{AnsweredAnew}
 use Rattle.demands.proofs.GetsOnBytes.{Shows}

@@ -9,18 +9,19 @@ use Rattle.rules.specs.Maps.{gather, find, has, keys, among}
 use Rattle.rules.specs.Catalogue.{Source, stored, of_creator, count_of, Catalogue, class, known, attribute, supported, size_of, is_stored, leader, family, key}
 use Rattle.rules.specs.State.{Entry, Table, class_of, entries, entry, contents, content, how_many_name, read_from, read}
 use Rattle.rules.specs.Commands.{values}
-use Rattle.rules.specs.Legal.{legal_value, legal_entry}
+use Rattle.rules.specs.Legal.{legal_entry}
 use Rattle.rules.specs.WellFormed.{WellFormed, readable_from, read_in_one_of_two_ways}
 use Rattle.rules.proofs.Laws.{never, both, eqb_eq, every_find, find_some, has_among}
 use Rattle.rules.proofs.ByteLaws.{length_bytes}
 use Rattle.rules.proofs.Lookups.{supported_known, attribute_says}
 use Rattle.rules.proofs.Standing.{key_class}
-use Rattle.rules.proofs.Families.{in_family, its_leader, family_has}
-use Rattle.legality.proofs.Contents.{LegalContents, value_of, content_found}
+use Rattle.rules.proofs.Families.{in_family, family_has}
+use Rattle.legality.proofs.Contents.{value_test, LegalContents, value_of, content_found}
 use Rattle.legality.proofs.Tables.{LegalEntry, open_entry, LegalTable}
 use Rattle.legality.proofs.Holds.{There, found_in}
 use Rattle.legality.proofs.Counter.{contents_legal}
 use Rattle.extending.proofs.Sections.{Shown}
+use Rattle.demands.proofs.Carried.{its_leader}
 use Rattle.demands.proofs.ContentLaws.{stored_is_there}
 
 -- a stored attribute is read from its instance's contents
@@ -50,7 +51,7 @@ module _ (cat : Catalogue) (wf : WellFormed cat) (stand : List ℕ) (t : Table) 
       let these : contents cat t c i ≡ f.0 = rw (x.found, f.1) refl in
       let v = find_some n (contents cat t c i) (stored_is_there cat wf stand t h c i n x sup st) in
       ap length (content_found n v.0 (contents cat t c i) v.1)
-      ∙ (value_of cat (class cat c) f.0 n v.0 (every_find (legal_value cat (class cat c) f.0) f.0 l.values n v.0 (ap (find n) (sym these) ∙ v.1))).sized
+      ∙ (value_of cat (class cat c) f.0 n v.0 (every_find (value_test cat (class cat c) f.0) f.0 l.values n v.0 (ap (find n) (sym these) ∙ v.1))).sized
 
   -- an entry of the table is one of its key's
   entry_is : (k : ℕ) (e : Entry) → find k (entries t) ≡ some e → LegalEntry cat k e

@@ -22,7 +22,7 @@ use Rattle.legality.proofs.Refusals.{none_applies}
 use Rattle.legality.proofs.Outcomes.{sent}
 use Rattle.demands.specs.Sent.{number_at}
 use Rattle.demands.proofs.SentLaws.{two_in_a_reply}
-use Rattle.demands.proofs.AccidentOnBytes.{UploadThenFetch, asked, fetched, table_as_it_stood, the_fetch_finds_the_table_as_it_stood, an_upload_on_bytes_shows_the_table_as_it_stood}
+use Rattle.demands.proofs.FrozenOnBytes.{UploadThenFetch, asked, fetched, table_as_it_stood, the_fetch_finds_the_table_as_it_stood, an_upload_on_bytes_shows_the_table_as_it_stood}
 use Rattle.demands.proofs.Uploads.{the_answer_has_the_number_of_sections, the_count_is_the_number_of_sections}
 use Rattle.demands.proofs.SectionsOnBytes.{HasTheSection, the_reply_to_an_upload_next_has_its_section}
 

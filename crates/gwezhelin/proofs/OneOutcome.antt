@@ -1,10 +1,10 @@
--- The contract of each function of the C face allows one number, one store and one reply buffer for every input. As in `engine/OneOutcome`,
+-- The contract of each function of the C face allows one number, one store and one reply buffer for every input. As in `engine/FixedOutcomes`,
 -- said of the contracts themselves: of each `requires` and `ensures` in src/lib.rt as the checker reads them.
 use Prim.Native.Nat.{ℕ}
 use mathlib.Core.Path.{◌≡◌, sym, ◌∙◌}
 use mathlib.Core.List.{List}
 use Rattle.store.specs.Entries.{Left}
-use Rattle.engine.proofs.OneOutcome.{FixesTheOutcome}
+use Rattle.engine.proofs.FixedOutcomes.{FixesTheOutcome}
 use Rattle.gwezhelin.specs.Numbers.{Returns}
 use Rattle.gwezhelin.specs.contracts.gwz_store_size as store_size
 use Rattle.gwezhelin.proofs.gwz_store_size.Reads as store_size_reads

@@ -10,7 +10,7 @@ use Rattle.rules.specs.Run.{message, attribute_report, alarm_report}
 use Rattle.rules.specs.Products.{built_products}
 use Rattle.store.proofs.EntryExamples.{small_store, room, on, computing_entries}
 use Rattle.demands.specs.Lending.{lend, memory_after}
-use Rattle.demands.proofs.Repeats.{RepeatAfterReports}
+use Rattle.demands.proofs.RepeatsAfterReports.{RepeatAfterReports}
 use Rattle.demands.proofs.AccidentExample.{trailer_of_8, ask, fetch_0}
 
 -- such a run there is

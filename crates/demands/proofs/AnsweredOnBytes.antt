@@ -26,9 +26,10 @@ use Rattle.legality.proofs.Refusals.{none_applies}
 use Rattle.legality.proofs.Outcomes.{drop_of, sent}
 use Rattle.legality.proofs.ReplyBytes.{the_result_is_byte_8}
 use Rattle.demands.specs.Sent.{number_at}
-use Rattle.demands.proofs.DemandOne.{an_answered_call_has_room_and_a_state, else_the_first_of_its_own_drops, the_outcome_is_the_rules, the_store_holds_what_the_rules_leave}
+use Rattle.demands.proofs.LentMemories.{an_answered_call_has_room_and_a_state}
+use Rattle.demands.proofs.DemandOne.{else_the_first_of_its_own_drops, the_outcome_is_the_rules, the_store_holds_what_the_rules_leave}
 use Rattle.demands.specs.Repeating.{IsNoRepeat}
-use Rattle.demands.proofs.AccidentOnBytes.{answered_anew}
+use Rattle.demands.proofs.FrozenInBetween.{answered_anew}
 
 -- The store holds h; the message m has this number and isn't what h remembers; and it is answered, with r. (So it passes its drops, and the buffer
 -- has room.)
