@@ -50,3 +50,8 @@ pub mod Labelled
 pub mod BeyondTheStoreExample
 pub mod UploadsOfBoth
 pub mod UploadsOfBothExample
+pub mod WorthlessOnBytes
+pub mod ResetsOnBytes
+pub mod RefusalsOnBytes
+pub mod SetFailuresOnBytes
+pub mod PairsOnBytes
