@@ -21,7 +21,7 @@ use Rattle.demands.specs.Between.{EachStep, is_dropped, asks_for_an_upload, asks
 use Rattle.demands.specs.Repeating.{IsNoRepeat}
 use Rattle.demands.proofs.Between.{kept_by_a_run}
 use Rattle.demands.proofs.Accident.{an_attribute_report_keeps_both_walks, an_alarm_report_keeps_both_walks, a_section_is_of_the_frozen_copy_alone, an_alarm_section_is_of_the_frozen_copy_alone}
-use Rattle.demands.proofs.Accident as landed
+use Rattle.demands.proofs.Accident as accident
 
 -- ---- messages
 
@@ -57,11 +57,11 @@ module _ {A : Type 0} (part : State → Option A) (asks : List ℕ → Bool) (ca
 
 -- a message that leaves uploads alone keeps the frozen table
 pub a_message_keeps_the_upload : (cat : Catalogue) (s : State) (m : List ℕ) → LeavesUploads s (message m) (handle cat s m).1 → (handle cat s m).0.upload ≡ s.upload
-a_message_keeps_the_upload cat s m = kept_by_a_message (λ t. t.upload) asks_for_an_upload cat s m (landed.a_message_keeps_the_upload cat s m)
+a_message_keeps_the_upload cat s m = kept_by_a_message (λ t. t.upload) asks_for_an_upload cat s m (accident.a_message_keeps_the_upload cat s m)
 
 -- a message that leaves alarm walks alone keeps the frozen bitmaps
 pub a_message_keeps_the_alarm_walk : (cat : Catalogue) (s : State) (m : List ℕ) → LeavesAlarmWalks s (message m) (handle cat s m).1 → (handle cat s m).0.walk ≡ s.walk
-a_message_keeps_the_alarm_walk cat s m = kept_by_a_message (λ t. t.walk) asks_for_an_alarm_walk cat s m (landed.a_message_keeps_the_alarm_walk cat s m)
+a_message_keeps_the_alarm_walk cat s m = kept_by_a_message (λ t. t.walk) asks_for_an_alarm_walk cat s m (accident.a_message_keeps_the_alarm_walk cat s m)
 
 -- ---- runs
 

@@ -17,15 +17,14 @@ use Rattle.rules.specs.Messages.{message_number, class_in, instance_in, contents
 use Rattle.rules.specs.Commands.{move_counter}
 use Rattle.rules.specs.Walks.{sections, frozen, upload, if_ont_data}
 use Rattle.rules.specs.Reports.{Outcome, dropped, answered, unless_dropped}
-use Rattle.rules.specs.Run.{answer, is_repeat, answer_anew, answer_again, handle, message, taken, fresh, after}
-use Rattle.rules.specs.Products.{Small, built_products}
-use Rattle.rules.proofs.Examples.{call}
+use Rattle.rules.specs.Run.{answer, is_repeat, answer_anew, answer_again, handle, message, taken}
+use Rattle.rules.specs.Products.{built_products}
 use Rattle.rules.proofs.Laws.{cases, same_eq}
 use Rattle.rules.proofs.MapLaws.{some_eq, none_some}
 use Rattle.store.specs.Decode.{Held, decode}
 use Rattle.store.specs.Entries.{Left, written, enter, power_on}
 use Rattle.store.proofs.Built.{built_products_fit}
-use Rattle.store.proofs.EntryExamples.{small_store, room, power_on_of_small, create_bridge, create_reply, computing_entries, behind}
+use Rattle.store.proofs.EntryExamples.{small_store, room, power_on_of_small, create_bridge, create_reply, behind}
 use Rattle.store.proofs.Soundness.{sound_is_an_encoding, decode_of_written}
 use Rattle.legality.proofs.Counter.{move_counter_legal}
 use Rattle.legality.proofs.LegalStates.{open_state, close_state, with_table_legal}
