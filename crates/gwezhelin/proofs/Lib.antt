@@ -1,2 +1,4 @@
 pub mod Told
 pub mod OneOutcome
+pub mod NeverAmbiguous
+pub mod ContractOfHandle
