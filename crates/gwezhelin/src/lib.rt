@@ -1,4 +1,5 @@
-// The engine for C: thin over the entries, one number for each outcome. include/gwezhelin.h tells a firmware engineer the same.
+// The engine for C: thin over the entries, one number for each outcome. include/gwezhelin.h tells a firmware engineer the same;
+// gwezhelin_c exports these functions.
 ghost use Rattle.std.specs.Prelude.{◌≡◌, not, [], eqb};
 ghost use Rattle.rules.specs.Run.{message, attribute_report, alarm_report, store_length};
 ghost use Rattle.rules.specs.Products.{built_products};
@@ -30,32 +31,28 @@ fn start_number(o: Started) -> u8
 }
 
 // How many bytes a store has.
-#[unsafe(no_mangle)]
-pub extern "C" fn gwz_store_size() -> usize
+pub fn gwz_store_size() -> usize
     ensures { result ≡ store_length }
 {
     store::layout::STORE
 }
 
 // Writes the fresh state of a product.
-#[unsafe(no_mangle)]
-pub extern "C" fn gwz_power_on(store: &mut [u8], product: u8) -> u8
+pub fn gwz_power_on(store: &mut [u8], product: u8) -> u8
     ensures { StartReturns result store.new (power_on built_products product store.old) }
 {
     start_number(engine::power_on(store, product))
 }
 
 // A message from the exchange.
-#[unsafe(no_mangle)]
-pub extern "C" fn gwz_handle(store: &mut [u8], m: &[u8], reply: &mut [u8]) -> u8
+pub fn gwz_handle(store: &mut [u8], m: &[u8], reply: &mut [u8]) -> u8
     ensures { Returns result store.new reply.new (enter built_products (message m.now) store.old reply.old) }
 {
     number(engine::handle(store, m, reply))
 }
 
 // A local report of an attribute's new content.
-#[unsafe(no_mangle)]
-pub extern "C" fn gwz_report_attribute(
+pub fn gwz_report_attribute(
     store: &mut [u8],
     class_id: u16,
     instance: u16,
@@ -70,8 +67,7 @@ pub extern "C" fn gwz_report_attribute(
 }
 
 // A local report of an alarm: `on` 0 clears it, anything else raises it.
-#[unsafe(no_mangle)]
-pub extern "C" fn gwz_report_alarm(
+pub fn gwz_report_alarm(
     store: &mut [u8],
     class_id: u16,
     instance: u16,
