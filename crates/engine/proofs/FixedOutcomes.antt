@@ -3,19 +3,15 @@
 -- what a function's `requires` asks of a caller, `Reads.Learnt` what its `ensures` tells a caller, both made by the checker out of the clauses
 -- in src/lib.rt. So a `requires` that is added, or an `ensures` that is loosened, breaks the theorem of that function.
 use Prim.Native.Nat.{ℕ}
-use mathlib.Core.Path.{◌≡◌, refl, sym, ◌∙◌, ap}
-use mathlib.Core.Option.{Option, none, some}
+use mathlib.Core.Path.{◌≡◌, sym, ◌∙◌, ap}
+use mathlib.Core.Option.{Option}
 use mathlib.Core.List.{List}
 use contract.Lifetimes.{Lfts}
 use denote.Triple.Entry.{Args, Res}
 use denote.Triple.Clauses.{Ended, Lasts, AtExit, at_exit}
-use Rattle.rules.specs.Reports as rules
 use Rattle.store.specs.Entries.{Left}
 use Rattle.outcome.specs.declared.Outcome.{Outcome}
-use Rattle.outcome.specs.declared.Outcome.TheVariants.{Answered, Quiet, Dropped}
-use Rattle.outcome.specs.declared.Started.{Started}
-use Rattle.outcome.specs.declared.Started.TheVariants as started
-use Rattle.outcome.specs.Outcomes.{outcome_of, left_by, started_of}
+use Rattle.outcome.specs.Outcomes.{left_by}
 use Rattle.engine.proofs.OneOutcome.{only_one, started_coded, started_back}
 use Rattle.engine.specs.contracts.handle as handle
 use Rattle.engine.proofs.handle.Reads as handle_reads
