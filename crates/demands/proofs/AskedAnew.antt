@@ -29,7 +29,7 @@ use Rattle.demands.proofs.DemandOne.{the_outcome_is_the_rules}
 use Rattle.demands.proofs.FrozenInBetween.{answered_anew}
 use Rattle.demands.proofs.FrozenOnBytes.{Passes}
 use Rattle.demands.proofs.AnsweredOnBytes.{AnsweredAnew}
-use Rattle.demands.proofs.LentMemories.{cut_behind}
+use Rattle.demands.proofs.RunsOnBytes.{cut_behind}
 
 -- A call whose message m has this number and is to the ONT data. It passes its drops, enough is lent, and the state that the memory holds doesn't
 -- remember m as the last answered command.

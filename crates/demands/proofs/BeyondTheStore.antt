@@ -28,10 +28,10 @@ use Rattle.demands.specs.Repeating.{IsNoRepeat}
 use Rattle.demands.proofs.SentLaws.{named_are}
 use Rattle.demands.proofs.DemandOne.{a_call_drops_as_its_list_says}
 use Rattle.demands.proofs.NotRefused.{above_0, not_refused, does_its_own}
-use Rattle.demands.proofs.ContentLaws.{others_stay}
 use Rattle.demands.proofs.FrozenInBetween.{answered_anew}
 use Rattle.demands.proofs.AnsweredOnBytes.{two_in_contents}
 use Rattle.demands.proofs.CreatesOnBytes.{TakesItsAlarms, their_alarms_go}
+use Rattle.demands.proofs.Sets.{others_stay}
 
 -- ---- a Set of class 2
 
@@ -82,7 +82,8 @@ an_accepted_delete_takes_its_alarms cat s m r b is_a_delete new told zero =
     let a : Answer = answer cat s (message_number m) c i v in
     let is_anew : handle cat s m ≡ (remember m (reply_to m a.1) a.0, answered (reply_to m a.1)) = answered_anew cat s m passes new in
     let is_6 : a ≡ answer cat s 6 c i v = ap (λ (n : ℕ). answer cat s n c i v) is_a_delete in
-    let result : byte a.1 0 ≡ 0 = sym (the_result_is_byte_8 m a.1 long) ∙ ap (λ (x : State × Outcome). byte (sent x.1) 8) (sym is_anew) ∙ ap (λ (o : Outcome). byte (sent o) 8) told ∙ zero in
+    let result : byte a.1 0 ≡ 0 =
+    sym (the_result_is_byte_8 m a.1 long) ∙ ap (λ (x : State × Outcome). byte (sent x.1) 8) (sym is_anew) ∙ ap (λ (o : Outcome). byte (sent o) 8) told ∙ zero in
     let own = (does_its_own cat s 6 c i v (delete cat s c i) refl (ap (λ (x : Answer). byte x.1 0) (sym is_6) ∙ result)).1 in
     let done = (not_refused s (delete_results cat s c i) (without cat c i s, 0 ∷ []) ((λ y. above_0 4), tt)
     (ap (λ (x : Answer). byte x.1 0) (sym (is_6 ∙ own)) ∙ result)).1 in

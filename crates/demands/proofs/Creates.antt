@@ -88,7 +88,7 @@ module _ (t : Table) (m : Map Entry) where
   unfolding entry with_created
   entry_created k o a e = ap (λ (o : Option Entry). given o [] (λ e. e)) (find_append k t.automatic m ∙ ap (λ (o : Option Entry). given o (find k m) some) a ∙ e)
 
-removed : {A : Type 0} (k : ℕ) (m : Map A) → find k (remove k m) ≡ none
+pub removed : {A : Type 0} (k : ℕ) (m : Map A) → find k (remove k m) ≡ none
 unfolding find keep
 removed k [] = refl
 removed k (x ∷ m) = cases (eqb x.0 k)
@@ -105,7 +105,7 @@ module _ (cat : Catalogue) (wf : WellFormed cat) (t : Table) where
       let leads : leader cat ont_data ≡ ont_data = rw wf.class_2_has_instance_0_alone refl in
       entry_elsewhere cat t ont_data 0 (overwrite ((1, next_number (counter cat t) ∷ []) ∷ [])) k (λ z. ne (z ∙ ap (λ (d : ℕ). key d 0) leads))
 
-  moved_holds : (d j : ℕ) → holds cat (move_counter cat t) d j ≡ holds cat t d j
+  pub moved_holds : (d j : ℕ) → holds cat (move_counter cat t) d j ≡ holds cat t d j
   unfolding with_counter
   moved_holds d j = holds_changed cat t ont_data 0 (overwrite ((1, next_number (counter cat t) ∷ []) ∷ [])) d j
 
@@ -114,7 +114,7 @@ module _ (cat : Catalogue) (wf : WellFormed cat) (t : Table) where
   unfolding with_counter find
   moved_content d j n h = others_stay cat t ont_data 0 ((1, next_number (counter cat t) ∷ []) ∷ []) d j n (λ p q. rw (eqb_false n 1 (h p q)) refl)
 
-  moved_on : (u : Table) → LegalLive cat wf u → contents cat t ont_data 0 ≡ contents cat u ont_data 0 → counter cat (move_counter cat t) ≡ next_number (counter cat u)
+  pub moved_on : (u : Table) → LegalLive cat wf u → contents cat t ont_data 0 ≡ contents cat u ont_data 0 → counter cat (move_counter cat t) ≡ next_number (counter cat u)
   unfolding with_counter counter number_from find
   moved_on u l same =
       let there : has 1 (contents cat t ont_data 0) ≡ true = ap (has 1) same ∙ counter_is_there cat wf u l in
@@ -126,17 +126,17 @@ module _ (cat : Catalogue) (wf : WellFormed cat) (t : Table) where
 -- ---- a class that can be created
 
 module _ (cat : Catalogue) (wf : WellFormed cat) (c i : ℕ) (cr : is_created (class cat c).creation ≡ true) (small : i < 65536) where
-  leads : leader cat c ≡ c
+  pub leads : leader cat c ≡ c
   leads = leads_itself c (class cat c).creation cr
 
   not_ont_data : c ≢ ont_data
   not_ont_data e = true_false cr (ap (λ (d : ℕ). is_created (class cat d).creation) e ∙ ap is_created wf.class_2_has_instance_0_alone)
 
-  not_its_key : key c i ≢ key ont_data 0
+  pub not_its_key : key c i ≢ key ont_data 0
   not_its_key e = not_ont_data (omega arith)
 
   -- its instance's entry isn't among those that are there by themselves
-  stands_alone : (t : Table) → LegalLive cat wf t → find (key c i) t.automatic ≡ none
+  pub stands_alone : (t : Table) → LegalLive cat wf t → find (key c i) t.automatic ≡ none
   stands_alone t l = created_alone cat wf t l (key c i) (rw (key_class c i small) cr)
 
 -- ---- an accepted Create
@@ -458,12 +458,12 @@ module _ (cat : Catalogue) (wf : WellFormed cat) (s : State) (c i : ℕ) (v : Li
       (λ clear y. (clear, refl))
 
   -- they are for the classes that can be created
-  created_if_create : NoneApplies (first_results cat create_number c) → is_created (class cat c).creation ≡ true
+  pub created_if_create : NoneApplies (first_results cat create_number c) → is_created (class cat c).creation ≡ true
   unfolding first_results created_by_Create
   created_if_create clear = implied (class_says created_by_Create cat wf.create_if_created c (only (known cat c) create_has_a_result clear.1.0))
       (or_left (among delete_number (class cat c).commands) (only (among create_number (class cat c).commands) create_has_a_result clear.1.1.0))
 
-  created_if_delete : NoneApplies (first_results cat delete_number c) → is_created (class cat c).creation ≡ true
+  pub created_if_delete : NoneApplies (first_results cat delete_number c) → is_created (class cat c).creation ≡ true
   unfolding first_results created_by_Create
   created_if_delete clear = implied (class_says created_by_Create cat wf.create_if_created c (only (known cat c) delete_has_a_result clear.1.0))
       (or_right (among create_number (class cat c).commands) (only (among delete_number (class cat c).commands) delete_has_a_result clear.1.1.0))

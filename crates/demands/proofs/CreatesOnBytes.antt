@@ -39,8 +39,8 @@ use Rattle.demands.proofs.SentLaws.{cut_from_a_message}
 use Rattle.demands.proofs.AnsweredOnBytes.{AnsweredAnew, LeavesAStateThat, its_catalogue_is_well_formed, its_state_is_legal, its_result, its_store}
 use Rattle.demands.proofs.NotRefused.{above_0, not_refused, does_its_own}
 use Rattle.demands.proofs.Counting.{one_on_if_next}
-use Rattle.demands.proofs.EntryLaws.{removed, leads, created_if_create, created_if_delete}
 use Rattle.demands.proofs.EntryChanged.{none_with_it, changed, its_entry, others_held, others_read, counter_on, with_entry, with_entry_elsewhere, made_is_there, made_reads}
+use Rattle.demands.proofs.Creates.{removed, leads, created_if_create, created_if_delete}
 
 -- ---- what is said
 
@@ -188,7 +188,7 @@ what_an_accepted_create_does products fit store m buffer r h a result_0 =
     let wf : WellFormed cat = its_catalogue_is_well_formed products fit 4 store m buffer r h a in
     let zero_result = sym (its_result products 4 store m buffer r h a) ∙ result_0 in
     let passed = does_its_own cat s 4 c i (contents_in m) (create cat s c i (contents_in m)) refl zero_result in
-    let cr : is_created k.creation ≡ true = created_if_create cat wf c passed.0 in
+    let cr : is_created k.creation ≡ true = created_if_create cat wf s c i [] passed.0 in
     let carried : Contents = carried_by k (contents_in m) in
     let make : ℕ → Attribute → List ℕ = λ n b. cond b.C (content n carried) (first_content carried b.source) in
     let legal = open_state cat wf s (its_state_is_legal products 4 store m buffer r h a) in
@@ -245,7 +245,7 @@ what_an_accepted_delete_does products fit store m buffer r h a result_0 =
     let wf : WellFormed cat = its_catalogue_is_well_formed products fit 6 store m buffer r h a in
     let zero_result = sym (its_result products 6 store m buffer r h a) ∙ result_0 in
     let passed = does_its_own cat s 6 c i (contents_in m) (delete cat s c i) refl zero_result in
-    let cr : is_created (class cat c).creation ≡ true = created_if_delete cat wf c passed.0 in
+    let cr : is_created (class cat c).creation ≡ true = created_if_delete cat wf s c i [] passed.0 in
     let l : LegalLive cat wf s.table = (open_state cat wf s (its_state_is_legal products 6 store m buffer r h a)).its_table in
     let small : i < 65536 = two_small m 6 a.of_bytes in
     let new : Map Entry = remove (key c i) s.table.created in

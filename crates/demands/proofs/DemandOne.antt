@@ -39,7 +39,7 @@ call_drops cat s (message m) = message_drops m
 call_drops cat s (attribute_report c i n v) = attribute_drops cat s c i n v
 call_drops cat s (alarm_report c i n on) = alarm_drops cat s c i n
 
-abbrev is_quiet : Outcome → Option ℕ
+abbrev pub is_quiet : Outcome → Option ℕ
 is_quiet (dropped n) = none
 is_quiet quiet = some 0
 is_quiet (answered r) = none
@@ -114,7 +114,7 @@ pub a_dropped_call_keeps_the_state : (cat : Catalogue) (s : State) (c : Call) (n
 a_dropped_call_keeps_the_state cat s c n e = (as_listed cat s c).state n e
 
 -- an entry drops with 1 or 2 before anything else, or does what the rules do to the state that the store holds
-entered {ℓ} : (X : Left → Type ℓ) (products : Products) (c : Call) (store buffer : List ℕ)
+pub entered {ℓ} : (X : Left → Type ℓ) (products : Products) (c : Call) (store buffer : List ℕ)
     → (ltb (length buffer) reply_length ≡ true → X (refuse store buffer 1))
     → (ltb (length buffer) reply_length ≡ false → decode products store ≡ none → X (refuse store buffer 2))
     → (ltb (length buffer) reply_length ≡ false → (h : Held) → decode products store ≡ some h
@@ -128,7 +128,7 @@ entered X products c store buffer f g k = cases (ltb (length buffer) reply_lengt
     go none e y = g y e
     go (some h) e y = k y h e
 
-left_outcome : (h : Held) (store buffer : List ℕ) (s : State) (o : Outcome) → (leave h store buffer s o).outcome ≡ o
+pub left_outcome : (h : Held) (store buffer : List ℕ) (s : State) (o : Outcome) → (leave h store buffer s o).outcome ≡ o
 unfolding leave
 left_outcome h store buffer s (dropped n) = refl
 left_outcome h store buffer s quiet = refl
@@ -147,7 +147,7 @@ which_drop products c store buffer = entered
     (λ e h f. rw (e, f, left_outcome h store buffer (taken h.catalogue h.state c).0 (taken h.catalogue h.state c).1) (a_call_drops_as_its_list_says h.catalogue h.state c))
 
 -- no call's own list has 1 or 2
-own_drops_are_over_2 : (cat : Catalogue) (s : State) (c : Call) (n : ℕ) → first_that_applies (call_drops cat s c) ≡ some n → 2 < n
+pub own_drops_are_over_2 : (cat : Catalogue) (s : State) (c : Call) (n : ℕ) → first_that_applies (call_drops cat s c) ≡ some n → 2 < n
 unfolding message_drops header_drops attribute_drops alarm_drops
 own_drops_are_over_2 cat s (message m) n e = first_has (λ n. 2 < n) (message_drops m)
     ((λ y. omega arith), ((λ y. omega arith), ((λ y. omega arith), ((λ y. omega arith), ((λ y. omega arith), tt))))) n e
@@ -278,7 +278,7 @@ module _ (products : Products) (c : Call) (store buffer : List ℕ) where
 
 module _ (products : Products) (fit : AllFit products) (c : Call) (of_bytes : OfBytes c) (store buffer : List ℕ) where
   -- what the call leaves of the state that a store holds is legal, and an answer is 48 bytes
-  fine_after : (h : Held) → decode products store ≡ some h
+  pub fine_after : (h : Held) → decode products store ≡ some h
       → (legal_state h.catalogue (taken h.catalogue h.state c).0 ≡ true) × SentIsAMessage (taken h.catalogue h.state c).1
   fine_after h e =
       let d = sound_is_an_encoding products store h e in

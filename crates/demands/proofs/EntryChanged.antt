@@ -21,8 +21,8 @@ use Rattle.rules.proofs.Families.{family_has}
 use Rattle.rules.proofs.Standing.{key_class}
 use Rattle.legality.proofs.Tables.{LegalEntry, LegalLive}
 use Rattle.legality.proofs.Holds.{There, holds_there, there_holds, entry_legal}
-use Rattle.demands.proofs.Readings.{read_stored}
-use Rattle.demands.proofs.EntryLaws.{contents_in_entry, holds_in_entry, entry_with, entry_created, moved_entry, moved_holds, moved_content, moved_on, leads, not_its_key, stands_alone}
+use Rattle.demands.proofs.Creates.{contents_in_entry, holds_in_entry, entry_with, entry_created, moved_entry, moved_holds, moved_content, moved_on, leads, not_its_key, stands_alone}
+use Rattle.demands.proofs.Gets.{read_stored}
 
 -- In a legal table of any well-formed catalogue, for a class that can be created and a number of two bytes:
 module _ (cat : Catalogue) (wf : WellFormed cat) (t : Table) (legal : LegalLive cat wf t) (c i : ℕ) (cr : is_created (class cat c).creation ≡ true) (small : i < 65536) where

@@ -4,17 +4,17 @@ use Prim.Native.Nat.{ℕ, ◌%◌, ◌≤◌}
 use mathlib.Core.Path.{◌≡◌, refl, ◌∙◌, ap, sym}
 use mathlib.Core.Bool.{Bool, true, false}
 use mathlib.Core.Option.{Option, none, some}
-use mathlib.Core.List.{List, []}
+use mathlib.Core.List.{List}
 use lib.ListN.{length}
 use lib.Seq.{get_or-take}
 use lib.Dec.{eqb}
 use native.Mathlib.Omega.{arith}
-use Rattle.rules.specs.Maps.{◌and◌, ◌or◌, Map, given, nth, among, first_that_applies}
-use Rattle.rules.specs.Bytes.{byte, two, bytes, are_bytes}
+use Rattle.rules.specs.Maps.{◌and◌, ◌or◌, Map, given, among, first_that_applies}
+use Rattle.rules.specs.Bytes.{byte, bytes, are_bytes}
 use Rattle.rules.specs.Catalogue.{Catalogue}
 use Rattle.rules.specs.State.{Table, Alarms, Memory, State}
 use Rattle.rules.specs.Messages.{contents_in, message_drops, reply_to, Answer, unless_refused}
-use Rattle.rules.specs.Walks.{if_ont_data, sections, section_contents, frozen, upload, upload_next, all_alarms, alarms_contents, alarms_next}
+use Rattle.rules.specs.Walks.{if_ont_data, sections, frozen, upload, upload_next, all_alarms, alarms_next}
 use Rattle.rules.specs.Reports.{Outcome, answered}
 use Rattle.rules.specs.Run.{perform, first_results, answer, remember, answer_anew, handle, message, Input, taken, after}
 use Rattle.rules.specs.Products.{Products}
@@ -31,6 +31,7 @@ use Rattle.demands.proofs.DemandOne.{the_outcome_is_the_rules, the_store_holds_w
 use Rattle.demands.proofs.RunsOnBytes.{a_run_on_bytes_leaves_the_rules_state}
 use Rattle.demands.proofs.Between.{each_lent_call_is_a_step, leaves_walks_on_its_state}
 use Rattle.demands.proofs.FrozenInBetween.{answered_anew, whatever_comes_in_between_the_upload_stays, whatever_comes_in_between_the_alarm_walk_stays}
+use Rattle.demands.proofs.AccidentOnBytes.{section_of, bitmap_of}
 
 -- ---- an upload and an Upload Next that pass the drops and are no repeats
 
@@ -200,14 +201,6 @@ module _ {products : Products} {asks fetches : ℕ} {asks_for_one : List ℕ →
     unfolding taken
     fetched_is_the_rules h = the_outcome_is_the_rules products (message q.fetch) (memory_after_all products store_asked q.between) q.fetch_buffer q.fetch_has_room
         (record { product = q.held_one.product; catalogue = q.held_one.catalogue; state = h.state }) h.held
-
--- the contents of the reply to an Upload Next with these contents, where this table is frozen: its section of that index, or none
-abbrev pub section_of : Catalogue → Table → List ℕ → List ℕ
-section_of cat t v = given (nth (sections cat t) (two v 0)) [] (section_contents cat t)
-
--- the contents of the reply to an Alarms Next with these contents, where these bitmaps are frozen
-abbrev pub bitmap_of : Map Alarms → List ℕ → List ℕ
-bitmap_of w v = given (nth w (two v 0)) [] alarms_contents
 
 module _ (products : Products) (fit : AllFit products) (store : List ℕ) where
   -- when the section is fetched, the store holds the table as it stood

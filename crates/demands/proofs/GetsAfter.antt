@@ -18,11 +18,11 @@ use Rattle.store.specs.Decode.{Held, decode}
 use Rattle.store.specs.Entries.{enter}
 use Rattle.store.specs.Fitting.{AllFit}
 use Rattle.demands.specs.Sent.{number_at, mask_names, sent_in_set, sent_in_create, shown_in_get}
-use Rattle.demands.proofs.Readings.{read_stored}
 use Rattle.demands.proofs.AnsweredOnBytes.{AnsweredAnew, its_catalogue_is_well_formed}
 use Rattle.demands.proofs.GetsOnBytes.{a_get_shows_what_is_read}
 use Rattle.demands.proofs.SetsOnBytes.{an_accepted_set_does_what_its_bytes_say}
 use Rattle.demands.proofs.CreatesOnBytes.{what_an_accepted_create_does}
+use Rattle.demands.proofs.Gets.{read_stored}
 
 -- A command m of this number is answered with 0, and the next call is a Get g of the same instance, which is answered with 0 too; its reply is q.
 pub record ThenGet (products : Products) (number : ℕ) (store m buffer r : List ℕ) (h : Held) (g get_buffer q : List ℕ) (k : Held) : Type 0 where

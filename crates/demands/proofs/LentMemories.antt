@@ -1,73 +1,36 @@
 -- Demand 1 on a memory that calls are lent parts of: when exactly a call meets drop 2, said by the bytes that states encode to; that bytes past the store's
 -- length are never read; that an answer is 48 bytes; and that a sound memory stays sound in any run, with any lent sizes.
-use Prim.Native.Nat.{ℕ, zero, suc, ◌+◌, ◌-◌, ◌≤◌, ◌<◌}
+use Prim.Native.Nat.{ℕ, zero, suc, ◌≤◌, ◌<◌}
 use native.Mathlib.Omega.{arith}
 use mathlib.Core.Path.{◌≡◌, refl, sym, ◌∙◌, ap}
-use mathlib.Core.Bool.{Bool, true, false, cond}
+use mathlib.Core.Bool.{Bool, true, cond}
 use mathlib.Core.Option.{Option, none, some}
 use mathlib.Core.Logic.{◌≢◌}
-use mathlib.Core.List.{List, [], ◌∷◌, ◌++◌, append_assoc}
+use mathlib.Core.List.{List, [], ◌∷◌, ◌++◌}
 use lib.ListN.{length, take, drop, replicate, take-append-drop}
-use lib.Seq.{take-add, length-take-le, take_all, take_at, drop_at}
+use lib.Seq.{length-take-le, take_all, take_at, drop_at}
 use lib.Dec.{ltb}
-use Rattle.rules.specs.Maps.{given, find, is_some, first_that_applies}
+use Rattle.rules.specs.Maps.{given, find, is_some}
 use Rattle.rules.specs.Bytes.{byte}
 use Rattle.rules.specs.Catalogue.{Catalogue}
 use Rattle.rules.specs.State.{State}
-use Rattle.rules.specs.Legal.{legal_state, header_drops}
-use Rattle.rules.specs.Messages.{message_drops}
-use Rattle.rules.specs.Reports.{Outcome, dropped, quiet, answered, attribute_drops, alarm_drops}
-use Rattle.rules.specs.Run.{Call, message, attribute_report, alarm_report, Input, store_length, reply_length, taken, fresh}
+use Rattle.rules.specs.Legal.{legal_state}
+use Rattle.rules.specs.Reports.{Outcome, dropped, quiet, answered}
+use Rattle.rules.specs.Run.{Call, Input, store_length, reply_length, taken, fresh}
 use Rattle.rules.specs.Products.{Products, built_products}
 use Rattle.rules.proofs.Laws.{cases, true_false, ltb_lt, ltb_le, le-ltb}
-use Rattle.rules.proofs.MapLaws.{some_eq, none_some, first_has}
+use Rattle.rules.proofs.MapLaws.{some_eq, none_some}
 use Rattle.store.specs.Layout.{encode}
 use Rattle.store.specs.Decode.{Held, decode_as, decode, sound}
 use Rattle.store.specs.Entries.{Left, written, leave, refuse, enter, power_on}
 use Rattle.store.specs.Fitting.{AllFit}
 use Rattle.store.proofs.Built.{built_products_fit}
-use Rattle.store.proofs.Soundness.{sound_is_an_encoding, legal_length, decode_of_held, decode_front, decode_of_written, length_written}
+use Rattle.store.proofs.Soundness.{sound_is_an_encoding, legal_length, decode_of_held, decode_of_written, length_written}
 use Rattle.legality.proofs.Outcomes.{drop_of, sent}
-use Rattle.legality.proofs.LegalStates.{open_state, close_state}
-use Rattle.legality.proofs.Kept.{OfBytes, AllOfBytes, SentIsAMessage, taken_fine, the_fresh_state_is_legal}
+use Rattle.legality.proofs.Kept.{OfBytes, AllOfBytes, SentIsAMessage, the_fresh_state_is_legal}
 use Rattle.demands.specs.Lending.{lend, memory_after, memory_after_all}
-use Rattle.demands.proofs.DemandOne.{call_drops, a_call_drops_as_its_list_says, a_sound_store_stays_sound, power_on_is_accepted, a_powered_on_store_is_sound}
-
-abbrev is_quiet : Outcome → Option ℕ
-is_quiet (dropped n) = none
-is_quiet quiet = some 0
-is_quiet (answered r) = none
-
--- an entry drops with 1 or 2 before anything else, or does what the rules do to the state that the store holds
-entered {ℓ} : (X : Left → Type ℓ) (products : Products) (c : Call) (store buffer : List ℕ)
-    → (ltb (length buffer) reply_length ≡ true → X (refuse store buffer 1))
-    → (ltb (length buffer) reply_length ≡ false → decode products store ≡ none → X (refuse store buffer 2))
-    → (ltb (length buffer) reply_length ≡ false → (h : Held) → decode products store ≡ some h
-    → X (leave h store buffer (taken h.catalogue h.state c).0 (taken h.catalogue h.state c).1))
-    → X (enter products c store buffer)
-unfolding enter
-entered X products c store buffer f g k = cases (ltb (length buffer) reply_length) (λ e. rw e (f e)) (λ e. rw e (go (decode products store) refl e))
-  where
-    go : (o : Option Held) → decode products store ≡ o → ltb (length buffer) reply_length ≡ false
-        → X (given o (refuse store buffer 2) (λ h. leave h store buffer (taken h.catalogue h.state c).0 (taken h.catalogue h.state c).1))
-    go none e y = g y e
-    go (some h) e y = k y h e
-
-left_outcome : (h : Held) (store buffer : List ℕ) (s : State) (o : Outcome) → (leave h store buffer s o).outcome ≡ o
-unfolding leave
-left_outcome h store buffer s (dropped n) = refl
-left_outcome h store buffer s quiet = refl
-left_outcome h store buffer s (answered r) = refl
-
--- no call's own list has 1 or 2
-own_drops_are_over_2 : (cat : Catalogue) (s : State) (c : Call) (n : ℕ) → first_that_applies (call_drops cat s c) ≡ some n → 2 < n
-unfolding message_drops header_drops attribute_drops alarm_drops
-own_drops_are_over_2 cat s (message m) n e = first_has (λ n. 2 < n) (message_drops m)
-    ((λ y. omega arith), ((λ y. omega arith), ((λ y. omega arith), ((λ y. omega arith), ((λ y. omega arith), tt))))) n e
-own_drops_are_over_2 cat s (attribute_report c i k v) n e = first_has (λ n. 2 < n) (attribute_drops cat s c i k v)
-    ((λ y. omega arith), ((λ y. omega arith), ((λ y. omega arith), tt))) n e
-own_drops_are_over_2 cat s (alarm_report c i k on) n e = first_has (λ n. 2 < n) (alarm_drops cat s c i k)
-    ((λ y. omega arith), ((λ y. omega arith), tt)) n e
+use Rattle.demands.proofs.DemandOne.{is_quiet, entered, left_outcome, own_drops_are_over_2, fine_after, a_call_drops_as_its_list_says, a_sound_store_stays_sound, power_on_is_accepted, a_powered_on_store_is_sound}
+use Rattle.demands.proofs.RunsOnBytes.{behind}
 
 -- no legal state of a product of the list encodes to the store's first bytes, as many as the store's length
 abbrev pub EncodesNoState : Products → List ℕ → Type 0
@@ -173,22 +136,13 @@ abbrev pub SameButPastTheStore : Left → Left → Type 0
 SameButPastTheStore a b = (a.outcome ≡ b.outcome) × (a.buffer ≡ b.buffer) × (take store_length a.store ≡ take store_length b.store)
 
 module _ (products : Products) (fit : AllFit products) (c : Call) (of_bytes : OfBytes c) (store buffer : List ℕ) where
-  -- what the call leaves of the state that a store holds is legal, and an answer is 48 bytes
-  fine_after : (h : Held) → decode products store ≡ some h
-      → (legal_state h.catalogue (taken h.catalogue h.state c).0 ≡ true) × SentIsAMessage (taken h.catalogue h.state c).1
-  fine_after h e =
-      let d = sound_is_an_encoding products store h e in
-      let wf = fit.well_formed h.product h.catalogue d.0 in
-      let f = taken_fine h.catalogue wf h.state (open_state h.catalogue wf h.state d.1) c of_bytes in
-      (close_state h.catalogue wf (taken h.catalogue h.state c).0 f.its_state, f.its_message)
-
   -- an answer is 48 bytes
   pub an_answer_is_48_bytes : (r : List ℕ) → (enter products c store buffer).outcome ≡ answered r → length r ≡ 48
   unfolding refuse
   an_answer_is_48_bytes r = entered (λ l. l.outcome ≡ answered r → length r ≡ 48) products c store buffer
       (λ e y. none_some (ap drop_of (sym y)))
       (λ e f y. none_some (ap drop_of (sym y)))
-      (λ e h f y. go (taken h.catalogue h.state c).1 (fine_after h f).1
+      (λ e h f y. go (taken h.catalogue h.state c).1 (fine_after products fit c of_bytes store buffer h f).1
       (sym (left_outcome h store buffer (taken h.catalogue h.state c).0 (taken h.catalogue h.state c).1) ∙ y))
     where
       go : (o : Outcome) → SentIsAMessage o → o ≡ answered r → length r ≡ 48
@@ -220,7 +174,7 @@ module _ (products : Products) (fit : AllFit products) (c : Call) (of_bytes : Of
           → SameButPastTheStore (given o (refuse store buffer 2) (λ h. leave h store buffer (taken h.catalogue h.state c).0 (taken h.catalogue h.state c).1))
           (given o (refuse other buffer 2) (λ h. leave h other buffer (taken h.catalogue h.state c).0 (taken h.catalogue h.state c).1))
       go none f = (refl, refl, e)
-      go (some h) f = left h (taken h.catalogue h.state c).0 (taken h.catalogue h.state c).1 (fine_after h f).0
+      go (some h) f = left h (taken h.catalogue h.state c).0 (taken h.catalogue h.state c).1 (fine_after products fit c of_bytes store buffer h f).0
 
 -- ---- power-on and runs
 
@@ -247,17 +201,7 @@ module _ (products : Products) (fit : AllFit products) where
 
   -- bytes behind a store that holds a state change nothing
   pub bytes_behind_change_nothing : (store rest : List ℕ) (h : Held) → decode products store ≡ some h → decode products (store ++ rest) ≡ some h
-  bytes_behind_change_nothing store rest h e =
-      ap (λ (x : List ℕ). decode products (x ++ rest)) (sym (take-append-drop store_length store))
-      ∙ ap (decode products) (append_assoc (take store_length store) (drop store_length store) rest)
-      ∙ decode_front products fit store h (drop store_length store ++ rest) e
-
-  -- bytes that are cut off behind the store's length change nothing
-  pub cut_behind : (n : ℕ) (store : List ℕ) (h : Held) → store_length ≤ n → decode products store ≡ some h → decode products (take n store) ≡ some h
-  cut_behind n store h long e =
-      ap (λ k. decode products (take k store)) (let z : n ≡ store_length + (n - store_length) = omega arith in z)
-      ∙ ap (decode products) (take-add store_length (n - store_length) store)
-      ∙ decode_front products fit store h (take (n - store_length) (drop store_length store)) e
+  bytes_behind_change_nothing = behind products fit
 
   sound_with_bytes_behind : (store rest : List ℕ) → sound products store ≡ true → sound products (store ++ rest) ≡ true
   unfolding sound

@@ -26,7 +26,6 @@ pub mod Counting
 pub mod ContentLaws
 pub mod Carried
 pub mod Readings
-pub mod EntryLaws
 pub mod LentMemories
 pub mod Between
 pub mod RepeatsAfterReports

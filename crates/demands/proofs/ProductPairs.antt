@@ -71,15 +71,15 @@ an_extension_does_all p q first second p_is q_is ext = record {
 
 -- ---- the pairs
 
-small_is_1 : find 1 built_products ≡ some Small
+pub small_is_1 : find 1 built_products ≡ some Small
 unfolding built_products find
 small_is_1 = refl
 
-large_is_2 : find 2 built_products ≡ some Large
+pub large_is_2 : find 2 built_products ≡ some Large
 unfolding built_products find
 large_is_2 = refl
 
-meter_is_3 : find 3 built_products ≡ some Meter
+pub meter_is_3 : find 3 built_products ≡ some Meter
 unfolding built_products find
 meter_is_3 = refl
 

@@ -11,7 +11,7 @@ use Rattle.rules.specs.State.{Entry, Table, class_of, entries, entry, contents, 
 use Rattle.rules.specs.Commands.{values}
 use Rattle.rules.specs.Legal.{legal_entry}
 use Rattle.rules.specs.WellFormed.{WellFormed, readable_from, read_in_one_of_two_ways}
-use Rattle.rules.proofs.Laws.{never, both, eqb_eq, every_find, find_some, has_among}
+use Rattle.rules.proofs.Laws.{both, eqb_eq, every_find, find_some, has_among}
 use Rattle.rules.proofs.ByteLaws.{length_bytes}
 use Rattle.rules.proofs.Lookups.{supported_known, attribute_says}
 use Rattle.rules.proofs.Standing.{key_class}
@@ -23,16 +23,6 @@ use Rattle.legality.proofs.Counter.{contents_legal}
 use Rattle.extending.proofs.Sections.{Shown}
 use Rattle.demands.proofs.Carried.{its_leader}
 use Rattle.demands.proofs.ContentLaws.{stored_is_there}
-
--- a stored attribute is read from its instance's contents
-pub read_stored : (cat : Catalogue) (t : Table) (c i n : ℕ) → is_stored (attribute (class cat c) n).source ≡ true → read cat t c i n ≡ content n (contents cat t c i)
-unfolding read read_from
-read_stored cat t c i n h = go (attribute (class cat c) n).source h
-  where
-    go : (src : Source) → is_stored src ≡ true → read_from cat t c i n (attribute (class cat c) n).size src ≡ content n (contents cat t c i)
-    go (stored f) h = refl
-    go (of_creator a) h = never h
-    go (count_of d a) h = never h
 
 -- contents that are read one after another
 pub values_gathered : (cat : Catalogue) (t : Table) (c i : ℕ) (l : List ℕ) → values cat t c i l ≡ gather (read cat t c i) l

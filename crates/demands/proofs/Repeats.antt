@@ -65,12 +65,12 @@ a_repeated_command_gets_its_old_reply_and_does_nothing cat s m again r e f g =
 -- ---- stores
 
 -- a state that a store holds, written over it, leaves it as it was
-as_it_was : (products : Products) (store : List ℕ) (h : Held) → decode products store ≡ some h → written h h.state store ≡ store
+pub as_it_was : (products : Products) (store : List ℕ) (h : Held) → decode products store ≡ some h → written h h.state store ≡ store
 unfolding written
 as_it_was products store h e =
     ap (λ (b : List ℕ). b ++ drop store_length store) (sym (sound_is_an_encoding products store h e).2) ∙ take-append-drop store_length store
 
-entered_is : (products : Products) (store : List ℕ) (h : Held) → decode products store ≡ some h → (c : Call) (buffer : List ℕ) → 48 ≤ length buffer
+pub entered_is : (products : Products) (store : List ℕ) (h : Held) → decode products store ≡ some h → (c : Call) (buffer : List ℕ) → 48 ≤ length buffer
     → enter products c store buffer ≡ leave h store buffer (taken h.catalogue h.state c).0 (taken h.catalogue h.state c).1
 unfolding enter
 entered_is products store h e c buffer long = rw (le-ltb (length buffer) 48 long, e) refl

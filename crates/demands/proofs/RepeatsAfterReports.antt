@@ -4,21 +4,20 @@ use mathlib.Core.Path.{◌≡◌, refl, sym, ◌∙◌, ap}
 use mathlib.Core.Bool.{Bool, true, false, not}
 use mathlib.Core.Option.{none, some}
 use mathlib.Core.List.{List, ◌++◌}
-use lib.ListN.{length, take, drop, get_or, take-append-drop}
+use lib.ListN.{length, take, drop, get_or}
 use Rattle.rules.specs.Maps.{◌and◌, ◌or◌, first_that_applies}
 use Rattle.rules.specs.Bytes.{are_bytes}
 use Rattle.rules.specs.Catalogue.{Catalogue, key}
 use Rattle.rules.specs.State.{Memory, State, alarms_of}
 use Rattle.rules.specs.Messages.{message_drops}
 use Rattle.rules.specs.Reports.{Outcome, dropped, quiet, answered, unless_dropped, attribute_drops, report_attribute, alarm_drops, turned, report_alarm}
-use Rattle.rules.specs.Run.{is_repeat, answer_again, handle, Call, message, attribute_report, alarm_report, Input, store_length, taken}
+use Rattle.rules.specs.Run.{is_repeat, answer_again, handle, Call, message, attribute_report, alarm_report, Input, taken}
 use Rattle.rules.specs.Run.{after}
 use Rattle.rules.specs.Products.{Products}
-use Rattle.rules.proofs.Laws.{cases, never, eq_same, le-ltb}
+use Rattle.rules.proofs.Laws.{cases, never, eq_same}
 use Rattle.store.specs.Decode.{Held, decode}
-use Rattle.store.specs.Entries.{written, leave, enter}
+use Rattle.store.specs.Entries.{leave, enter}
 use Rattle.store.specs.Fitting.{AllFit}
-use Rattle.store.proofs.Soundness.{sound_is_an_encoding}
 use Rattle.legality.proofs.Refusals.{unless_dropped_is}
 use Rattle.legality.proofs.Kept.{AllOfBytes}
 use Rattle.demands.specs.Lending.{memory_after_all}
@@ -28,7 +27,7 @@ use Rattle.demands.proofs.DemandOne.{the_store_holds_what_the_rules_leave}
 use Rattle.demands.proofs.RunsOnBytes.{a_run_on_bytes_leaves_the_rules_state}
 use Rattle.demands.proofs.Between.{kept_by_a_run, each_lent_call_is_a_step}
 use Rattle.demands.proofs.LentMemories.{an_answered_call_has_room_and_a_state, an_answer_is_48_bytes}
-use Rattle.demands.proofs.Repeats.{an_answered_command_is_remembered}
+use Rattle.demands.proofs.Repeats.{as_it_was, entered_is, an_answered_command_is_remembered}
 
 -- ---- local reports and dropped messages in between
 
@@ -68,17 +67,6 @@ module _ (cat : Catalogue) where
       ∙ ap (λ (x : List ℕ). (t, answered x)) k.its_reply
 
 -- ---- stores
-
--- a state that a store holds, written over it, leaves it as it was
-as_it_was : (products : Products) (store : List ℕ) (h : Held) → decode products store ≡ some h → written h h.state store ≡ store
-unfolding written
-as_it_was products store h e =
-    ap (λ (b : List ℕ). b ++ drop store_length store) (sym (sound_is_an_encoding products store h e).2) ∙ take-append-drop store_length store
-
-entered_is : (products : Products) (store : List ℕ) (h : Held) → decode products store ≡ some h → (c : Call) (buffer : List ℕ) → 48 ≤ length buffer
-    → enter products c store buffer ≡ leave h store buffer (taken h.catalogue h.state c).0 (taken h.catalogue h.state c).1
-unfolding enter
-entered_is products store h e c buffer long = rw (le-ltb (length buffer) 48 long, e) refl
 
 -- a command that is answered, whatever the answer is; local reports and dropped messages, each in its own lent sizes; the command again
 pub record RepeatAfterReports (products : Products) (store : List ℕ) : Type 0 where

@@ -59,7 +59,7 @@ module _ (products : Products) (fit : AllFit products) where
       go (some h) e = absurd (let long = (sound_is_an_encoding products store h e).3 in omega arith)
 
   -- bytes behind a sound store change nothing
-  behind : (store rest : List ℕ) (h : Held) → decode products store ≡ some h → decode products (store ++ rest) ≡ some h
+  pub behind : (store rest : List ℕ) (h : Held) → decode products store ≡ some h → decode products (store ++ rest) ≡ some h
   behind store rest h e =
       let d = sound_is_an_encoding products store h e in
       ap (λ (x : List ℕ). decode products (x ++ rest)) (sym (take-append-drop store_length store))
@@ -67,7 +67,7 @@ module _ (products : Products) (fit : AllFit products) where
       ∙ decode_front products fit store h (drop store_length store ++ rest) e
 
   -- nor do bytes that are cut off behind the store's length
-  cut_behind : (n : ℕ) (store : List ℕ) (h : Held) → store_length ≤ n → decode products store ≡ some h → decode products (take n store) ≡ some h
+  pub cut_behind : (n : ℕ) (store : List ℕ) (h : Held) → store_length ≤ n → decode products store ≡ some h → decode products (take n store) ≡ some h
   cut_behind n store h long e =
       ap (λ k. decode products (take k store)) (let z : n ≡ store_length + (n - store_length) = omega arith in z)
       ∙ ap (decode products) (take-add store_length (n - store_length) store)

@@ -36,9 +36,10 @@ use Rattle.demands.proofs.SentLaws.{named_are, cut_from_a_message}
 use Rattle.demands.proofs.NotRefused.{not_refused, does_its_own}
 use Rattle.demands.proofs.Counting.{one_on_if_next}
 use Rattle.demands.proofs.AnsweredOnBytes.{AnsweredAnew, LeavesAStateThat, two_in_contents, its_length, its_catalogue_is_well_formed, its_state_is_legal, its_result, its_store}
-use Rattle.demands.proofs.ContentLaws.{contents_elsewhere, others_stay, named_change, stays_beside, cut_some, number_one, set_lines_refuse, its_instance_is_there, at_most_30_bytes}
-use Rattle.demands.proofs.ContentLaws.{what_it_names_can_be_written, written_is_there, counter_is_there}
-use Rattle.demands.proofs.EntryLaws.{holds_changed}
+use Rattle.demands.proofs.ContentLaws.{stays_beside, set_lines_refuse, its_instance_is_there, at_most_30_bytes}
+use Rattle.demands.proofs.ContentLaws.{what_it_names_can_be_written}
+use Rattle.demands.proofs.Sets.{contents_elsewhere, others_stay, named_change, cut_some, number_one, written_is_there, counter_is_there}
+use Rattle.demands.proofs.Creates.{holds_changed}
 
 -- What an accepted Set m has done: s is the state before it, t the state after it. Its class is m's number at byte 4, its instance that at byte 6 and its mask
 -- that at byte 8.

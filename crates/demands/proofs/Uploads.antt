@@ -127,17 +127,17 @@ module _ (size : ℕ → ℕ) where
       (λ u. rw u (good_sections (now ++ n ∷ []) l (one_more now n u) (both g).1))
       (λ u. rw u (and_true (and_true (full_is_some now n z u) (le-leb (total size now) 26 h)) (good_sections (n ∷ []) l (one_alone n z) (both g).1)))
 
-all_of_map : {A B : Type 0} (p : B → Bool) (f : A → B) (l : List A) → all (λ a. p (f a)) l ≡ true → all p (map f l) ≡ true
+pub all_of_map : {A B : Type 0} (p : B → Bool) (f : A → B) (l : List A) → all (λ a. p (f a)) l ≡ true → all p (map f l) ≡ true
 unfolding all
 all_of_map p f [] h = refl
 all_of_map p f (a ∷ l) h = and_true (both h).0 (all_of_map p f l (both h).1)
 
-all_of_gather : {A B : Type 0} (p : B → Bool) (f : A → List B) → ((a : A) → all p (f a) ≡ true) → (l : List A) → all p (gather f l) ≡ true
+pub all_of_gather : {A B : Type 0} (p : B → Bool) (f : A → List B) → ((a : A) → all p (f a) ≡ true) → (l : List A) → all p (gather f l) ≡ true
 unfolding all gather
 all_of_gather p f h [] = refl
 all_of_gather p f h (a ∷ l) = all_append p (f a) (gather f l) (h a) (all_of_gather p f h l)
 
-all_of_entries : {A B : Type 0} (p : B → Bool) (f : ℕ × A → List B) (m : Map A) → Each (λ k a. all p (f (k, a)) ≡ true) m → all p (gather f m) ≡ true
+pub all_of_entries : {A B : Type 0} (p : B → Bool) (f : ℕ × A → List B) (m : Map A) → Each (λ k a. all p (f (k, a)) ≡ true) m → all p (gather f m) ≡ true
 unfolding all gather
 all_of_entries p f [] h = refl
 all_of_entries p f (e ∷ m) h = all_append p (f e) (gather f m) h.0 (all_of_entries p f m h.1)
@@ -179,7 +179,7 @@ module _ (cat : Catalogue) (wf : WellFormed cat) where
       (each_of_every (λ c k. every (λ n a. leb 1 a.size and leb a.size 25) k.attributes) cat.classes wf.sizes)
       (each_of_every (λ c k. rising (keys k.attributes)) cat.classes wf.attributes_in_order))))
 
-all_nth : {A : Type 0} (p : A → Bool) (l : List A) → all p l ≡ true → (k : ℕ) (a : A) → nth l k ≡ some a → p a ≡ true
+pub all_nth : {A : Type 0} (p : A → Bool) (l : List A) → all p l ≡ true → (k : ℕ) (a : A) → nth l k ≡ some a → p a ≡ true
 unfolding all nth
 all_nth p [] h k a e = none_some e
 all_nth p (x ∷ l) h zero a e = ap p (sym (some_eq e)) ∙ (both h).0

@@ -45,9 +45,10 @@ use Rattle.demands.proofs.Between.{each_lent_call_is_a_step, leaves_walks_on_its
 use Rattle.demands.proofs.AnsweredOnBytes.{its_length}
 use Rattle.demands.proofs.AskedAnew.{AskedAnew, its_reply_is, its_step_is, anew_on_lent_bytes, NextAskedAnew, there_is_a_next}
 use Rattle.demands.proofs.RunsOnBytes.{a_lent_call_is_the_rules, a_run_on_bytes_leaves_the_rules_state, a_powered_on_store_holds_the_fresh_state}
-use Rattle.demands.proofs.SectionLaws.{InOne, in_one, what_one_shows_stands}
+use Rattle.demands.proofs.SectionLaws.{what_one_shows_stands}
 use Rattle.demands.proofs.SentLaws.{two_in_a_reply}
 use Rattle.demands.proofs.SectionsOnBytes.{HasTheSection, the_reply_to_an_upload_next_has_its_section}
+use Rattle.demands.proofs.Fetched.{InOne, in_one}
 
 -- ---- the same calls of both
 

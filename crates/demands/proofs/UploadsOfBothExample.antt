@@ -9,7 +9,6 @@ use Rattle.demands.specs.Sent.{number_at}
 use Rattle.demands.proofs.FrozenOnBytes.{another_id}
 use Rattle.rules.specs.Bytes.{bytes}
 use Rattle.rules.specs.Messages.{framed}
-use Rattle.rules.specs.Maps.{find}
 use Rattle.rules.specs.Run.{Input, message, attribute_report, store_length, step, fresh, after}
 use Rattle.rules.specs.Products.{Small, Large, built_products}
 use Rattle.rules.proofs.Laws.{◌&◌}
@@ -26,14 +25,7 @@ use Rattle.demands.proofs.AskedAnew.{NextAskedAnew, there_is_a_next}
 use Rattle.demands.proofs.RunsOnBytes.{a_lent_call_is_the_rules}
 use Rattle.demands.proofs.DemandThreeExample.{port}
 use Rattle.demands.proofs.UploadsOfBoth.{memory_of, holds_after_the_run, UploadAskedOfBoth, SecondSendsAll, what_the_first_s_upload_sends_the_second_s_sends}
-
-small_is_1 : find 1 built_products ≡ some Small
-unfolding computing
-small_is_1 = refl
-
-large_is_2 : find 2 built_products ≡ some Large
-unfolding computing
-large_is_2 = refl
+use Rattle.demands.proofs.ProductPairs.{small_is_1, large_is_2}
 
 -- a bridge with a port is made
 unfoldable pub a_bridge_with_a_port : List Input

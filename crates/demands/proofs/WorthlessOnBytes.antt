@@ -32,9 +32,9 @@ use Rattle.legality.proofs.Outcomes.{drop_of, sent}
 use Rattle.demands.proofs.DemandOne.{the_outcome_is_the_rules}
 use Rattle.demands.specs.Repeating.{IsNoRepeat}
 use Rattle.demands.proofs.FrozenOnBytes.{Passes, command_is_done, walks_are_done, another_id}
-use Rattle.demands.proofs.EntryLaws.{moved_content, moved_holds}
 use Rattle.demands.proofs.Worthless.{Engine, result_in, create_with_bad_max_age, refused_reply, ask_for_an_upload, reply_with_count, after_e3, computing_worthless}
 use Rattle.demands.proofs.Worthless.{held_before_e3, held_after_e3, a_fresh_small_holds, after_e3_it_holds, MakesUpTheCount, of_a_fresh_small, of_one_bridge, CountsWithoutLooking}
+use Rattle.demands.proofs.Creates.{moved_content, moved_holds}
 
 -- what is lent to an engine is bytes: a `&[u8]` holds numbers below 256
 pub record AreBytes (store m buffer : List ℕ) : Type 0 where

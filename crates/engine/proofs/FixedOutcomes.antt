@@ -3,19 +3,16 @@
 -- what a function's `requires` asks of a caller, `Reads.Learnt` what its `ensures` tells a caller, both made by the checker out of the clauses
 -- in src/lib.rt. So a `requires` that is added, or an `ensures` that is loosened, breaks the theorem of that function.
 use Prim.Native.Nat.{ℕ}
-use mathlib.Core.Path.{◌≡◌, refl, sym, ◌∙◌, ap}
-use mathlib.Core.Option.{Option, none, some}
+use mathlib.Core.Path.{◌≡◌, sym, ◌∙◌, ap}
+use mathlib.Core.Option.{Option}
 use mathlib.Core.List.{List}
 use contract.Lifetimes.{Lfts}
 use denote.Triple.Entry.{Args, Res}
 use denote.Triple.Clauses.{Ended, Lasts, AtExit, at_exit}
-use Rattle.rules.specs.Reports as rules
 use Rattle.store.specs.Entries.{Left}
 use Rattle.outcome.specs.declared.Outcome.{Outcome}
-use Rattle.outcome.specs.declared.Outcome.TheVariants.{Answered, Quiet, Dropped}
-use Rattle.outcome.specs.declared.Started.{Started}
-use Rattle.outcome.specs.declared.Started.TheVariants as started
-use Rattle.outcome.specs.Outcomes.{outcome_of, left_by, started_of}
+use Rattle.outcome.specs.Outcomes.{left_by}
+use Rattle.engine.proofs.OneOutcome.{only_one, started_coded, started_back}
 use Rattle.engine.specs.contracts.handle as handle
 use Rattle.engine.proofs.handle.Reads as handle_reads
 use Rattle.engine.specs.contracts.report_attribute as report_attribute
@@ -37,38 +34,12 @@ pub record FixesTheOutcome (T : Ended) (asked : (κs : Lfts T.signature.lifetime
 
 -- ---- the entries
 
--- the code's answer that stands for an outcome
-coded : rules.Outcome → Outcome
-coded (rules.dropped n) = Dropped n
-coded rules.quiet = Quiet
-coded (rules.answered r) = Answered
-
-coded_back : (o : Outcome) (b : List ℕ) → o ≡ coded (outcome_of o b)
-unfolding coded
-coded_back Answered b = refl
-coded_back Quiet b = refl
-coded_back (Dropped n) b = refl
-
--- what two outcomes of an entry on the same input differ in: nothing
-record NothingDiffers (o o' : Outcome) (store store' buffer buffer' : List ℕ) : Type 0 where
-  outcomes : o ≡ o'
-  stores : store ≡ store'
-  buffers : buffer ≡ buffer'
-
-only_one : {x : Left} (o o' : Outcome) (store store' buffer buffer' : List ℕ) → left_by o store buffer ≡ x → left_by o' store' buffer' ≡ x
-    → NothingDiffers o o' store store' buffer buffer'
-only_one o o' store store' buffer buffer' e f = record {
-  outcomes = coded_back o buffer ∙ ap (λ (l : Left). coded l.outcome) (e ∙ sym f) ∙ sym (coded_back o' buffer');
-  stores = ap (λ (l : Left). l.store) (e ∙ sym f);
-  buffers = ap (λ (l : Left). l.buffer) (e ∙ sym f);
-}
-
 -- any two outcomes that the contract of `handle` allows are equal: the answer, the store and the reply buffer
 pub handle_fixes_the_outcome : FixesTheOutcome handle.ended handle_reads.Asked handle_reads.Learnt
 handle_fixes_the_outcome = record {
   asks_nothing = λ κs a. tt;
   any_two_are_equal = λ κs a r r' last last' e f.
-      let same = only_one r r' last.0 last'.0 last.1.1.0 last'.1.1.0 e f in
+      let same = only_one _ r r' last.0 last'.0 last.1.1.0 last'.1.1.0 e f in
       (same.outcomes, λ i. (same.stores i, (tt, (same.buffers i, tt))));
 }
 
@@ -76,7 +47,7 @@ handle_fixes_the_outcome = record {
 of_a_report : {x : Left} (r r' : Outcome) (last last' : List ℕ × (Unit {0} × (Unit {0} × (Unit {0} × (Unit {0} × (List ℕ × Unit {0}))))))
     → left_by r last.0 last.1.1.1.1.1.0 ≡ x → left_by r' last'.0 last'.1.1.1.1.1.0 ≡ x → (r ≡ r') × (last ≡ last')
 of_a_report r r' last last' e f =
-    let same = only_one r r' last.0 last'.0 last.1.1.1.1.1.0 last'.1.1.1.1.1.0 e f in
+    let same = only_one _ r r' last.0 last'.0 last.1.1.1.1.1.0 last'.1.1.1.1.1.0 e f in
     (same.outcomes, λ i. (same.stores i, (tt, (tt, (tt, (tt, (same.buffers i, tt)))))))
 
 -- so with `report_attribute`
@@ -86,15 +57,6 @@ report_attribute_fixes_the_outcome = record { asks_nothing = λ κs a. tt; any_t
 -- with `report_alarm`
 pub report_alarm_fixes_the_outcome : FixesTheOutcome report_alarm.ended report_alarm_reads.Asked report_alarm_reads.Learnt
 report_alarm_fixes_the_outcome = record { asks_nothing = λ κs a. tt; any_two_are_equal = λ κs a r r' last last' e f. of_a_report r r' last last' e f }
-
-started_coded : Option ℕ → Started
-started_coded none = started.Fresh
-started_coded (some n) = started.Dropped n
-
-started_back : (o : Started) → o ≡ started_coded (started_of o)
-unfolding started_coded
-started_back started.Fresh = refl
-started_back (started.Dropped n) = refl
 
 -- and with `power_on`, which is lent a store alone
 pub power_on_fixes_the_outcome : FixesTheOutcome power_on.ended power_on_reads.Asked power_on_reads.Learnt

@@ -31,7 +31,7 @@ pub record SameOutcome (o o' : Outcome) (store store' buffer buffer' : List ℕ)
   pub stores : store ≡ store'
   pub buffers : buffer ≡ buffer'
 
-only_one : (x : Left) (o o' : Outcome) (store store' buffer buffer' : List ℕ) → left_by o store buffer ≡ x → left_by o' store' buffer' ≡ x
+pub only_one : (x : Left) (o o' : Outcome) (store store' buffer buffer' : List ℕ) → left_by o store buffer ≡ x → left_by o' store' buffer' ≡ x
     → SameOutcome o o' store store' buffer buffer'
 only_one x o o' store store' buffer buffer' e f = record {
   outcomes = coded_back o buffer ∙ ap (λ (l : Left). coded l.outcome) (e ∙ sym f) ∙ sym (coded_back o' buffer');
@@ -46,11 +46,11 @@ module _ (c : Call) (before given : List ℕ) where
       → SameOutcome o o' store store' buffer buffer'
   any_two_outcomes_are_equal o o' store store' buffer buffer' e f = only_one (enter built_products c before given) o o' store store' buffer buffer' e f
 
-started_coded : Option ℕ → Started
+pub started_coded : Option ℕ → Started
 started_coded none = started.Fresh
 started_coded (some n) = started.Dropped n
 
-started_back : (o : Started) → o ≡ started_coded (started_of o)
+pub started_back : (o : Started) → o ≡ started_coded (started_of o)
 unfolding started_coded
 started_back started.Fresh = refl
 started_back (started.Dropped n) = refl

@@ -34,7 +34,7 @@ module _ (first second : Catalogue) (wf : WellFormed first) (wf' : WellFormed se
         let x = alarm_report_matched first second wf wf' ext s z h h' mt c i n on has in
         record { states = x.0; outcomes = rw x.1 (the_same (alarm_report c i n on) (taken first s (alarm_report c i n on)).1) }
 
-    step_matched : (p : Input) → OfBytes p.call → names_what_it_has first s p.call ≡ true → answered_with_0_1_or_7 p.call (step first s p).1 ≡ true
+    pub step_matched : (p : Input) → OfBytes p.call → names_what_it_has first s p.call ≡ true → answered_with_0_1_or_7 p.call (step first s p).1 ≡ true
         → MatchedResult first second wf wf' ext p.call (step first s p) (step second z p)
     unfolding step unless_dropped
     step_matched p b has = go (first_that_applies (room_drops p))
