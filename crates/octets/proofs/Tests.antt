@@ -1,14 +1,13 @@
--- Tests that gather differences by OR: a turn and the end of their loops, and what all zero means.
-use Prim.Native.Nat.{ℕ, zero, suc, ◌+◌, ◌<◌, ◌≤◌}
-use native.Mathlib.Numerals.{add-one}
+-- Tests that gather differences by OR, and what all zero means.
+use Prim.Native.Nat.{ℕ, zero, suc}
 use native.Mathlib.Omega.{arith}
 use mathlib.Core.Path.{◌≡◌, refl, sym, ◌∙◌, ap}
 use mathlib.Core.Bool.{Bool, true, false, ◌&&◌}
 use mathlib.Core.List.{List, [], ◌∷◌, ◌++◌}
-use lib.ListN.{length, get_or, drop, replicate, drop_of_length-le}
-use lib.Seq.{drop-cons}
+use lib.ListN.{length, replicate}
 use lib.Dec.{eqb}
 use lib.Bits.{bit_or, bit_xor, or_zero_l, or_add_and, and_le_l, and_le_r, xor_add_and, xor_self}
+use Rattle.std.specs.List.{fold, zip}
 use Rattle.rules.specs.Maps.{◌and◌, all, same}
 use Rattle.rules.proofs.Conjunctions.{join_assoc, join_end}
 use Rattle.rules.proofs.Laws.{cases, both, eqb_true, eqb_false, eqb_eq, same?, same_eq}
@@ -24,30 +23,22 @@ xor_test a b = same? a b
     (λ e. rw (e, xor_self b) (sym (eqb_true b b refl)))
     (λ e. rw (eqb_false a b e) (eqb_false (bit_xor a b) 0 (λ q. e (omega (arith, xor_add_and a b, and_le_l a b, and_le_r a b)))))
 
-module _ (s : List ℕ) (i any : ℕ) (z : Bool) (e : (eqb any 0 && all_zero (drop i s)) ≡ z) where
-  pub zeros_next : i < length s → (eqb (bit_or any (get_or s i 0)) 0 && all_zero (drop (i + 1) s)) ≡ z
-  unfolding all_zero all ◌and◌
-  zeros_next h =
-      rw (or_test any (get_or s i 0), join_assoc (eqb any 0) (eqb (get_or s i 0) 0) (all_zero (drop (i + 1) s)), add-one i) (rw (drop-cons s i 0 h) at e)
+-- what a fold over the bytes has gathered
+pub zeros_folded : (any : ℕ) (l : List ℕ) → eqb (fold bit_or any l) 0 ≡ (eqb any 0 && all_zero l)
+unfolding all_zero all ◌and◌
+zeros_folded any [] = sym (join_end (eqb any 0))
+zeros_folded any (x ∷ l) = zeros_folded (bit_or any x) l ∙ rw (or_test any x) (join_assoc (eqb any 0) (eqb x 0) (all_zero l))
 
-  pub zeros_end : length s ≤ i → eqb any 0 ≡ z
-  unfolding all_zero all
-  zeros_end h = sym (join_end (eqb any 0)) ∙ (rw (drop_of_length-le s h) at e)
-
-module _ (a b : List ℕ) (i any : ℕ) (z : Bool) (l : length a ≡ length b) (e : (eqb any 0 && same (drop i a) (drop i b)) ≡ z) where
-  pub same_next : i < length a
-      → (eqb (bit_or any (bit_xor (get_or a i 0) (get_or b i 0))) 0 && same (drop (i + 1) a) (drop (i + 1) b)) ≡ z
-  unfolding same ◌and◌
-  same_next h = rw (
-    or_test any (bit_xor (get_or a i 0) (get_or b i 0)),
-    xor_test (get_or a i 0) (get_or b i 0),
-    join_assoc (eqb any 0) (eqb (get_or a i 0) (get_or b i 0)) (same (drop (i + 1) a) (drop (i + 1) b)),
-    add-one i,
-  ) (rw (drop-cons a i 0 h, drop-cons b i 0 (omega arith)) at e)
-
-  pub same_end : length a ≤ i → eqb any 0 ≡ z
-  unfolding same
-  same_end h = sym (join_end (eqb any 0)) ∙ (rw (drop_of_length-le a h, drop_of_length-le b {i = i} (omega arith)) at e)
+-- and a fold over pairs of bytes
+pub same_folded : (any : ℕ) (a b : List ℕ) → length a ≡ length b
+    → eqb (fold (λ n p. bit_or n (bit_xor p.0 p.1)) any (zip a b)) 0 ≡ (eqb any 0 && same a b)
+unfolding same ◌and◌
+same_folded any [] [] l = sym (join_end (eqb any 0))
+same_folded any [] (y ∷ b) l = absurd (omega (arith, l))
+same_folded any (x ∷ a) [] l = absurd (omega (arith, l))
+same_folded any (x ∷ a) (y ∷ b) l =
+    same_folded (bit_or any (bit_xor x y)) a b (omega (arith, l))
+    ∙ rw (or_test any (bit_xor x y), xor_test x y) (join_assoc (eqb any 0) (eqb x y) (same a b))
 
 -- slices of other lengths differ
 pub same_not : (a b : List ℕ) → (length a ≡ length b → ⊥) → false ≡ same a b

@@ -1,4 +1,6 @@
 // Bytes in slices that the caller lends: numbers of two bytes, keys, copies, tests, and moves to make or close a gap.
+#![tactic(auto)]
+
 ghost use Rattle.std.specs.Prelude.{◌≡◌, ◌∷◌, ◌++◌, ◌+◌, ◌-◌, ◌/◌, ◌%◌, ◌<◌, ◌≤◌, length, take, drop, replicate};
 ghost use Rattle.rules.specs.Maps.{same};
 ghost use Rattle.rules.specs.Catalogue.{key};
@@ -8,7 +10,7 @@ ghost use Rattle.rules.specs.Bytes.{two, bytes, laid, all_zero};
 pub fn wide(x: u8) -> u16
     ensures { (result ≡ x) × (result < 256) }
 {
-    x as u16
+    u16::from(x)
 }
 
 // The number in two bytes, the high one first.
@@ -16,21 +18,14 @@ pub fn number_at(s: &[u8], i: usize) -> u16
     requires { i + 1 < length s.now }
     ensures { result ≡ two s.now i }
 {
-    wide(s[i]) * 256 + wide(s[i + 1])
-}
-
-// A number of two bytes as a wider one.
-fn wider(x: u16) -> u32
-    ensures { (result ≡ x) × (result < 65536) }
-{
-    x as u32
+    u16::from_be_bytes([s[i], s[i + 1]])
 }
 
 // An instance's key as one number: class, then number.
 pub fn key_of(class: u16, number: u16) -> u32
     ensures { result ≡ key class number }
 {
-    wider(class) * 65536 + wider(number)
+    u32::from(class) * 65536 + u32::from(number)
 }
 
 // The key in four bytes.
@@ -45,14 +40,14 @@ pub fn key_at(s: &[u8], i: usize) -> u32
 pub fn high(n: u16) -> u8
     ensures { result ≡ n / 256 }
 {
-    (n / 256) as u8
+    n.to_be_bytes()[0]
 }
 
 // The low byte of a number.
 pub fn low(n: u16) -> u8
     ensures { result ≡ n % 256 }
 {
-    (n % 256) as u8
+    n.to_be_bytes()[1]
 }
 
 // Writes a number into two bytes, the high one first.
@@ -60,8 +55,7 @@ pub fn put_number(s: &mut [u8], i: usize, n: u16)
     requires { i + 1 < length s.old }
     ensures { s.new ≡ take i s.old ++ (bytes 2 n ++ drop (i + 2) s.old) }
 {
-    s[i] = high(n);
-    s[i + 1] = low(n);
+    s[i..i + 2].copy_from_slice(&n.to_be_bytes());
 }
 
 // Copies bytes over others, from a place on.
@@ -69,11 +63,7 @@ pub fn copy_in(dst: &mut [u8], at: usize, src: &[u8])
     requires { at + length src.now ≤ length dst.old }
     ensures { dst.new ≡ laid at src.now dst.old }
 {
-    let mut i = 0;
-    while i < src.len() {
-        dst[at + i] = src[i];
-        i += 1;
-    }
+    dst[at..at + src.len()].copy_from_slice(src);
 }
 
 // Freezes n bytes: copies them to a place behind them, with a 1 in front that marks that they are there.
@@ -81,36 +71,23 @@ pub fn freeze(s: &mut [u8], from: usize, to: usize, n: usize)
     requires { (from + n ≤ to) × (to + n < length s.old) }
     ensures { s.new ≡ laid to (1 ∷ take n (drop from s.old)) s.old }
 {
-    let mut i = 0;
-    while i < n {
-        s[to + 1 + i] = s[from + i];
-        i += 1;
-    }
-    s[to] = 1;
+    let (front, behind) = s.split_at_mut(to);
+    behind[0] = 1;
+    behind[1..1 + n].copy_from_slice(&front[from..from + n]);
 }
 
 // Makes every byte zero.
 pub fn zero(s: &mut [u8])
     ensures { s.new ≡ replicate (length s.old) 0 }
 {
-    let mut i = 0;
-    while i < s.len() {
-        s[i] = 0;
-        i += 1;
-    }
+    s.fill(0);
 }
 
 // Is every byte zero? The loop has no early end, so that it becomes vector code.
 pub fn zeros(s: &[u8]) -> bool
     ensures { result ≡ all_zero s.now }
 {
-    let mut any: u8 = 0;
-    let mut i = 0;
-    while i < s.len() {
-        any = any | s[i];
-        i += 1;
-    }
-    any == 0
+    s.iter().fold(0, |any, x| any | *x) == 0
 }
 
 // Is every byte zero from a place on?
@@ -128,38 +105,7 @@ pub fn same_bytes(a: &[u8], b: &[u8]) -> bool
     if a.len() != b.len() {
         return false;
     }
-    let mut any: u8 = 0;
-    let mut i = 0;
-    while i < a.len() {
-        any = any | (a[i] ^ b[i]);
-        i += 1;
-    }
-    any == 0
-}
-
-// Moves the bytes up: the first ones stay, and as many at the end are lost.
-fn shift_up(t: &mut [u8], by: usize)
-    requires { by ≤ length t.old }
-    ensures { t.new ≡ take by t.old ++ take (length t.old - by) t.old }
-{
-    let mut j = t.len();
-    while by < j {
-        j -= 1;
-        t[j] = t[j - by];
-    }
-}
-
-// Moves the bytes down: the first ones are lost, and as many at the end stay.
-fn shift_down(t: &mut [u8], by: usize)
-    requires { by ≤ length t.old }
-    ensures { t.new ≡ drop by t.old ++ drop (length t.old - by) t.old }
-{
-    let n = t.len() - by;
-    let mut i = 0;
-    while i < n {
-        t[i] = t[i + by];
-        i += 1;
-    }
+    a.iter().zip(b).fold(0, |any, (x, y)| any | (x ^ y)) == 0
 }
 
 // Puts bytes in front: the others move up, and what is pushed out at the end is lost.
@@ -167,7 +113,7 @@ pub fn insert_front(t: &mut [u8], v: &[u8])
     requires { length v.now ≤ length t.old }
     ensures { t.new ≡ v.now ++ take (length t.old - length v.now) t.old }
 {
-    shift_up(t, v.len());
+    t.copy_within(..t.len() - v.len(), v.len());
     copy_in(t, 0, v);
 }
 
@@ -176,7 +122,7 @@ pub fn remove_front(t: &mut [u8], by: usize)
     requires { by ≤ length t.old }
     ensures { t.new ≡ drop by t.old ++ replicate by 0 }
 {
-    shift_down(t, by);
-    let a = t.len() - by;
-    zero(&mut t[a..]);
+    let kept = t.len() - by;
+    t.copy_within(by.., 0);
+    t[kept..].fill(0);
 }

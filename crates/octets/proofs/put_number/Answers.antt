@@ -1,0 +1,12 @@
+use Rattle.std.proofs.Common.{◌≡◌, refl, ap, sym, ◌∙◌, rules}
+use Rattle.std.specs.Int.{w16, to_be_bytes}
+use Rattle.rules.specs.Bytes.{bytes, laid}
+use Rattle.octets.proofs.Laid.{laid_part, laid_number}
+use Rattle.octets.proofs.Writes.{two_bytes}
+use Rattle.octets.proofs.put_number.Goals as goal
+
+pub returns : goal.returns
+returns c =
+    laid_part c.args.i _ c.copy_from_slice.new.self c.args.s.now (search rules)
+    ∙ ap (λ v. laid c.args.i v c.args.s.now) (c.copy_from_slice.ensures.after ∙ c.to_be_bytes.ensures ∙ two_bytes c.args.n)
+    ∙ sym (laid_number c.args.i c.args.n c.args.s.now)
