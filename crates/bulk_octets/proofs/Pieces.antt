@@ -1,12 +1,13 @@
 -- Two slices compared piece by piece.
 use Prim.Native.Nat.{ℕ, ◌+◌, ◌-◌, ◌≤◌}
 use native.Mathlib.Omega.{arith}
-use mathlib.Core.Path.{◌≡◌, sym, ◌∙◌, ap}
-use mathlib.Core.Bool.{Bool, true, false}
+use mathlib.Core.Path.{◌≡◌, refl, sym, ◌∙◌, ap}
+use mathlib.Core.Bool.{Bool, ◌&&◌}
 use mathlib.Core.List.{List, [], ◌∷◌, ◌++◌}
 use lib.ListN.{length, take, drop, length-drop, take-append-drop}
 use lib.Seq.{length-take-le, drop-drop, take_all}
 use lib.Dec.{eqb}
+use lib.Pointwise.{pointwise}
 use Rattle.rules.specs.Maps.{◌and◌, same}
 use Rattle.rules.proofs.Laws.{true_and}
 use Rattle.rules.proofs.Conjunctions.{and_assoc}
@@ -25,18 +26,13 @@ same_split n a b h k =
     ap (λ (x : List ℕ). same x b) (sym (take-append-drop n a)) ∙ ap (λ (x : List ℕ). same (take n a ++ drop n a) x) (sym (take-append-drop n b))
     ∙ same_append (take n a) (drop n a) (take n b) (drop n b) (length-take-le n a h ∙ sym (length-take-le n b k))
 
--- a piece of n bytes, from a place on
-module _ (a b : List ℕ) (at n : ℕ) (z : Bool) (l : length a ≡ length b) (e : same (drop at a) (drop at b) ≡ z) (room : at + n ≤ length a) where
-  opened : (same (take n (drop at a)) (take n (drop at b)) and same (drop (at + n) a) (drop (at + n) b)) ≡ z
-  opened = rw (← drop-drop n at a, ← drop-drop n at b)
-      (sym (same_split n (drop at a) (drop at b) (simp length-drop (omega arith)) (simp length-drop (omega arith))) ∙ e)
-
-  pub piece_differs : same (take n (drop at a)) (take n (drop at b)) ≡ false → false ≡ z
-  unfolding ◌and◌
-  piece_differs p = rw p at opened
-
-  pub piece_passed : same (take n (drop at a)) (take n (drop at b)) ≡ true → same (drop (at + n) a) (drop (at + n) b) ≡ z
-  piece_passed p = rw (p, true_and) at opened
+-- the library's test of equality
+pub equal_is_same : (a b : List ℕ) → pointwise eqb a b ≡ same a b
+unfolding same ◌and◌
+equal_is_same [] [] = refl
+equal_is_same [] (y ∷ b) = refl
+equal_is_same (x ∷ a) [] = refl
+equal_is_same (x ∷ a) (y ∷ b) = ap (λ (z : Bool). eqb x y && z) (equal_is_same a b)
 
 -- what is lent from a place to the end
 pub the_rest : (at : ℕ) (a : List ℕ) → take (length a - at) (drop at a) ≡ drop at a
