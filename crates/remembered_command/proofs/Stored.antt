@@ -27,7 +27,7 @@ module _ (s m b : List ℕ) (ls : length s ≡ 1 + memory_length) (lm : command_
   whole : length (1 ∷ command ++ reply) ≡ 1 + memory_length
   whole = let l = length_command in let n = length_reply in simp length-append (omega arith)
 
-  both_gathered : {t u : List ℕ} → t ≡ laid command_at command (set s 0 1) → u ≡ laid reply_at reply t → u ≡ 1 ∷ command ++ reply
+  pub both_gathered : {t u : List ℕ} → t ≡ laid command_at command (set s 0 1) → u ≡ laid reply_at reply t → u ≡ 1 ∷ command ++ reply
   both_gathered {t} e f =
       let l = length_command in
       let marked : set s 0 1 ≡ laid 0 (1 ∷ []) s = one_laid 0 1 s (omega arith) in
@@ -35,8 +35,3 @@ module _ (s m b : List ℕ) (ls : length s ≡ 1 + memory_length) (lm : command_
       let z : 0 + length (1 ∷ command) ≡ reply_at = omega arith in
       f ∙ ap (laid reply_at reply) first ∙ ap (λ (k : ℕ). laid k reply (laid 0 (1 ∷ command) s)) (sym z)
       ∙ laid_next 0 (1 ∷ command) s (omega arith) reply ∙ laid_all (1 ∷ command ++ reply) s (whole ∙ sym ls)
-
-  -- gathered in bytes of their own, and laid over what was remembered before
-  pub both_stored : (old : List ℕ) {t u new : List ℕ} → t ≡ laid command_at command (set s 0 1) → u ≡ laid reply_at reply t
-      → length old ≡ 1 + memory_length → new ≡ laid 0 u old → new ≡ 1 ∷ command ++ reply
-  both_stored old e f lo g = g ∙ ap (λ x. laid 0 x old) (both_gathered e f) ∙ laid_all (1 ∷ command ++ reply) old (whole ∙ sym lo)

@@ -1,5 +1,7 @@
 // The remembered command: its first 40 bytes and its reply's 48, behind a byte that says whether there is one. The functions take these bytes
 // alone, not the store that they are a part of.
+#![tactic(auto)]
+
 ghost use Rattle.std.specs.Prelude.{◌≡◌, ◌∷◌, ◌++◌, ◌+◌, ◌≤◌, length, take, drop};
 ghost use Rattle.rules.specs.Bytes.{laid};
 ghost use Rattle.rules.specs.Run.{reply_length};
@@ -18,7 +20,7 @@ pub fn is_repeat(memory: &[u8], m: &[u8]) -> bool
     requires { (length memory.now ≡ 1 + memory_length) × (command_length ≤ length m.now) }
     ensures { result ≡ repeats memory.now m.now }
 {
-    (memory[0] == 1) & octets::same_bytes(&m[0..COMMAND], &memory[COMMAND_AT..REPLY_AT])
+    (memory[0] == 1) & octets::same_bytes(&m[..COMMAND], &memory[COMMAND_AT..REPLY_AT])
 }
 
 // Writes the remembered reply into a buffer.
@@ -37,7 +39,7 @@ pub fn remember(memory: &mut [u8], m: &[u8], buffer: &[u8])
 {
     let mut both = [0u8; MEMORY];
     both[0] = 1;
-    octets::copy_in(&mut both, COMMAND_AT, &m[0..COMMAND]);
-    octets::copy_in(&mut both, REPLY_AT, &buffer[0..REPLY]);
-    octets::copy_in(memory, 0, &both);
+    octets::copy_in(&mut both, COMMAND_AT, &m[..COMMAND]);
+    octets::copy_in(&mut both, REPLY_AT, &buffer[..REPLY]);
+    memory.copy_from_slice(&both);
 }
