@@ -12,7 +12,10 @@ use Rattle.rules.specs.Bytes.{byte, two}
 use Rattle.rules.specs.Legal.{header_drops}
 use Rattle.rules.specs.Messages.{trailer, message_drops}
 use Rattle.rules.proofs.Laws.{cases, eqb_true, eqb_false, eqb_eq, eqb_ne}
-use Rattle.message_frame.specs.Drops.{drop_code}
+use Rattle.std.specs.Prelude.{Result, Ok, Err}
+use Rattle.message_frame.specs.Drops.{drop_of, drop_code}
+use Rattle.message_frame.specs.declared.drops.DropReason.{DropReason}
+use Rattle.message_frame.specs.declared.drops.DropReason.TheVariants as reason
 use Rattle.rules.proofs.MapLaws.{EachLine, first_has}
 use mathlib.Core.Option.{Option, some, none}
 use mathlib.Core.Logic.{◌≢◌}
@@ -27,12 +30,16 @@ four_at m i h = rw (
 )
 
 pub trailer_test : (m : List ℕ) → 48 ≤ length m
-    → (eqb (get_or m 40 0) 0 && (eqb (get_or m 41 0) 0 && (eqb (get_or m 42 0) 0 && eqb (get_or m 43 0) 0x28))) ≡ same (take 4 (drop 40 m)) trailer
+    → (((eqb (get_or m 40 0) 0 && eqb (get_or m 41 0) 0) && eqb (get_or m 42 0) 0) && eqb (get_or m 43 0) 0x28) ≡ same (take 4 (drop 40 m)) trailer
 unfolding same ◌and◌
 trailer_test m h = rw (four_at m 40 (omega arith)) (last (eqb (get_or m 40 0) 0) (eqb (get_or m 41 0) 0) (eqb (get_or m 42 0) 0) (eqb (get_or m 43 0) 0x28))
   where
-    last : (a b c d : Bool) → (a && (b && (c && d))) ≡ (a && (b && (c && (d && true))))
-    last a b c d = cases d (λ e. rw e) (λ e. rw e)
+    last : (a b c d : Bool) → (((a && b) && c) && d) ≡ (a && (b && (c && (d && true))))
+    last true true true true = refl
+    last true true true false = refl
+    last true true false d = refl
+    last true false c d = refl
+    last false b c d = refl
 
 -- both bytes of the id are zero exactly if the id is
 pub id_test : (m : List ℕ) → (eqb (get_or m 0 0) 0 && eqb (get_or m 1 0) 0) ≡ eqb (two m 0) 0
@@ -42,37 +49,38 @@ id_test m = cases (eqb (get_or m 0 0) 0)
     (λ f. let y = eqb_ne (get_or m 1 0) 0 f in rw f (sym (eqb_false (two m 0) 0 (omega arith))))))
     (λ e. let z = eqb_ne (get_or m 0 0) 0 e in rw e (sym (eqb_false (two m 0) 0 (omega arith))))
 
-abbrev pub dropped_as : List ℕ → ℕ → Type 0
-dropped_as m n = n ≡ drop_code (first_that_applies (message_drops m))
+-- an answer tells the first of a message's drops that applies
+abbrev pub tells_first : List ℕ → Result (Unit {0}) DropReason → Type 0
+tells_first m r = drop_of r ≡ first_that_applies (message_drops m)
 
 module _ (m : List ℕ) where
-  pub drop_3 : (length m ≡ 48 → ⊥) → dropped_as m 3
+  pub wrong_length : length m ≢ 48 → tells_first m (Err reason.WrongLength)
   unfolding message_drops first_that_applies
-  drop_3 h = rw (eqb_false (length m) 48 h)
+  wrong_length h = rw (eqb_false (length m) 48 h)
 
   module _ (h₃ : length m ≡ 48) where
-    pub drop_4 : (byte m 3 ≡ 0x0A → ⊥) → dropped_as m 4
+    pub wrong_device : byte m 3 ≢ 0x0A → tells_first m (Err reason.WrongDevice)
     unfolding message_drops header_drops first_that_applies
-    drop_4 h = rw (eqb_true (length m) 48 h₃, eqb_false (byte m 3) 0x0A h)
+    wrong_device h = rw (eqb_true (length m) 48 h₃, eqb_false (byte m 3) 0x0A h)
 
     module _ (h₄ : byte m 3 ≡ 0x0A) where
-      pub drop_5 : (byte m 2 / 32 ≡ 2 → ⊥) → dropped_as m 5
+      pub wrong_type : byte m 2 / 32 ≢ 2 → tells_first m (Err reason.WrongType)
       unfolding message_drops header_drops first_that_applies
-      drop_5 h = rw (eqb_true (length m) 48 h₃, eqb_true (byte m 3) 0x0A h₄, eqb_false (byte m 2 / 32) 2 h)
+      wrong_type h = rw (eqb_true (length m) 48 h₃, eqb_true (byte m 3) 0x0A h₄, eqb_false (byte m 2 / 32) 2 h)
 
       module _ (h₅ : byte m 2 / 32 ≡ 2) where
-        pub drop_6 : (eqb (get_or m 0 0) 0 && eqb (get_or m 1 0) 0) ≡ true → dropped_as m 6
+        pub no_correlation_id : (eqb (get_or m 0 0) 0 && eqb (get_or m 1 0) 0) ≡ true → tells_first m (Err reason.NoCorrelationId)
         unfolding message_drops header_drops first_that_applies
-        drop_6 h = rw (eqb_true (length m) 48 h₃, eqb_true (byte m 3) 0x0A h₄, eqb_true (byte m 2 / 32) 2 h₅, sym (id_test m) ∙ h)
+        no_correlation_id h = rw (eqb_true (length m) 48 h₃, eqb_true (byte m 3) 0x0A h₄, eqb_true (byte m 2 / 32) 2 h₅, sym (id_test m) ∙ h)
 
         module _ (h₆ : (eqb (get_or m 0 0) 0 && eqb (get_or m 1 0) 0) ≡ false) where
-          pub drop_7 : same (take 4 (drop 40 m)) trailer ≡ false → dropped_as m 7
+          pub wrong_fixed_bytes : same (take 4 (drop 40 m)) trailer ≡ false → tells_first m (Err reason.WrongFixedBytes)
           unfolding message_drops header_drops first_that_applies
-          drop_7 h = rw (eqb_true (length m) 48 h₃, eqb_true (byte m 3) 0x0A h₄, eqb_true (byte m 2 / 32) 2 h₅, sym (id_test m) ∙ h₆, h)
+          wrong_fixed_bytes h = rw (eqb_true (length m) 48 h₃, eqb_true (byte m 3) 0x0A h₄, eqb_true (byte m 2 / 32) 2 h₅, sym (id_test m) ∙ h₆, h)
 
-          pub no_drop : same (take 4 (drop 40 m)) trailer ≡ true → dropped_as m 0
+          pub nothing_wrong : same (take 4 (drop 40 m)) trailer ≡ true → tells_first m (Ok tt)
           unfolding message_drops header_drops first_that_applies
-          no_drop h = rw (eqb_true (length m) 48 h₃, eqb_true (byte m 3) 0x0A h₄, eqb_true (byte m 2 / 32) 2 h₅, sym (id_test m) ∙ h₆, h)
+          nothing_wrong h = rw (eqb_true (length m) 48 h₃, eqb_true (byte m 3) 0x0A h₄, eqb_true (byte m 2 / 32) 2 h₅, sym (id_test m) ∙ h₆, h)
 
 -- ---- codes of drops
 

@@ -1,1 +1,2 @@
 pub mod Drops
+pub mod Commands

@@ -1,4 +1,7 @@
 // What the engine answers, as the code says it: the results in the replies to commands, and what a call comes to.
+#![tactic(auto)]
+
+pub mod refusals;
 
 // Document 01's results.
 pub const NO_PLACE: u8 = 1;
@@ -15,22 +18,11 @@ pub const INSTANCE_EXISTS: u8 = 7;
 
 pub const ATTRIBUTE_FAILED: u8 = 9;
 
-// What a call comes to.
-#[derive(Clone, Copy)]
+// What a call that isn't dropped comes to.
+#[derive(Clone, Copy, Debug, PartialEq, Eq)]
 pub enum Outcome {
     // the reply buffer's first 48 bytes are to be sent
     Answered,
     // nothing is to be sent
     Quiet,
-    // dropped, with a number of document 01's list
-    Dropped(u8),
-}
-
-// What a power-on comes to.
-#[derive(Clone, Copy)]
-pub enum Started {
-    // the store holds the fresh state
-    Fresh,
-    // dropped, with a number of document 01's list
-    Dropped(u8),
 }
