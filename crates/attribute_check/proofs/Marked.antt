@@ -12,10 +12,18 @@ use Rattle.rules.specs.Catalogue.{Class, size_of}
 use Rattle.rules.specs.Commands.{cut}
 use Rattle.rules.proofs.Laws.{not-true, not-false}
 use Rattle.bits.proofs.Masks.{mask_small, named_within}
-use Rattle.bits.proofs.MaskWalk.{Walked, nothing_walked, next_within, one_walked}
+use Rattle.bits.proofs.MaskWalk.{Walked, nothing_walked, next_in_range, next_within, one_walked}
+use Rattle.bits.specs.Digits.{digit}
+use Rattle.class_tables.specs.declared.Product.{Product}
+use Rattle.class_tables.specs.Built.{class_for}
+use Rattle.class_tables.specs.Sizes.{size_digits}
+use Rattle.class_tables.proofs.SizeLaws.{read_off}
 use Rattle.attribute_check.specs.Judges.{legal_at, bad_among}
 
-module _ (there : ℕ → ℕ → Bool) (k : Class) (b : List ℕ) (at : ℕ) where
+module _ (there : ℕ → ℕ → Bool) (pr : Product) (c : ℕ) (b : List ℕ) (at : ℕ) where
+  abbrev k : Class
+  k = class_for pr c
+
   abbrev bad_mask : List ℕ → List ℕ → ℕ
   bad_mask l v = mask (bad_among there k b at l v)
 
@@ -57,15 +65,19 @@ module _ (there : ℕ → ℕ → Bool) (k : Class) (b : List ℕ) (at : ℕ) wh
       pub bit_room : {bit : ℕ} → bit ≡ 2 ^ (16 - n) → bad + bit < 65536
       bit_room e = let few = s.few in let h = heavier in let z = mask_small (named m) (named_within m) in omega arith
 
-      module _ {w : ℕ} (sized : w ≡ size_of k n) where
+      -- so many bytes, read off the class's sizes
+      module _ {sizes w : ℕ} (digits : sizes ≡ size_digits k) (read : w ≡ digit sizes n) where
+        sized : w ≡ size_of k n
+        sized = let i = next_in_range s.walked first in read_off pr c n i.0 i.1 digits read
+
         pub part_room : from + w ≤ length v
-        part_room = let z = next_within s.walked first in let r = s.room in omega arith
+        part_room = let e = sized in let z = next_within s.walked first in let r = s.room in omega arith
 
         part_is : take (from + w - from) (drop from v) ≡ take (size_of k n) (drop from v)
-        part_is = let e : from + w - from ≡ size_of k n = omega arith in rw e
+        part_is = let z = sized in let e : from + w - from ≡ size_of k n = omega arith in rw e
 
         pub part_sized : length (take (from + w - from) (drop from v)) ≡ size_of k n
-        part_sized = let r = part_room in rw part_is (length-take-le (size_of k n) (drop from v) (rw (length-drop from v) (omega arith)))
+        part_sized = let z = sized in let r = part_room in rw part_is (length-take-le (size_of k n) (drop from v) (rw (length-drop from v) (omega arith)))
 
         module _ {bit : ℕ} {t : Bool} (is : bit ≡ 2 ^ (16 - n)) (judged : t ≡ legal_at there k b at n (take (from + w - from) (drop from v))) where
           was : {u : Bool} → t ≡ u → legal_at there k b at n (take (size_of k n) (drop from v)) ≡ u
