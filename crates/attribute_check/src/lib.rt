@@ -1,3 +1,4 @@
+#![tactic(auto)]
 // Is a content legal, and which of several aren't?
 ghost use Rattle.std.specs.Prelude.{◌≡◌, ◌≢◌, ◌+◌, ◌≤◌, length};
 ghost use Rattle.rules.specs.Bytes.{number};
@@ -130,17 +131,14 @@ pub fn bad_mask(
     ensures { result ≡ mask (bad_among (is_in (cat_of product) live.now) (class_for product class) own.now at (named asked) v.now) }
 {
     let sizes = sizes::sizes(product, class);
-    let mut left = asked;
     let mut from = 0;
     let mut bad = 0;
-    while left != 0 {
-        let n = bits::first_named(left);
+    for n in bits::named(asked) {
         let to = from + bits::digit(sizes, n);
         let bit = bits::bit_of(n);
         if !fits(live, product, class, n, &v[from..to], own, at) {
             bad += bit;
         }
-        left -= bit;
         from = to;
     }
     bad

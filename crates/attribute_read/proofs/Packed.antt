@@ -1,5 +1,5 @@
 -- The loop of the packer: what is written so far, and what is left to write.
-use Prim.Native.Nat.{ℕ, ◌+◌, ◌-◌, ◌^◌, ◌≤◌, ◌<◌}
+use Prim.Native.Nat.{ℕ, ◌+◌, ◌≤◌, ◌<◌}
 use native.Mathlib.Omega.{arith}
 use mathlib.Core.Path.{◌≡◌, refl, sym, ◌∙◌, ap}
 use mathlib.Core.Bool.{true}
@@ -10,8 +10,7 @@ use Rattle.rules.specs.Bytes.{laid}
 use Rattle.rules.specs.Masks.{named, total}
 use Rattle.rules.specs.Catalogue.{Class, supported, size_of}
 use Rattle.rules.proofs.Laws.{both}
-use Rattle.bits.specs.Firsts.{First}
-use Rattle.bits.proofs.MaskWalk.{none_left, and_the_others, Walked, nothing_walked, next_passes, next_within, one_walked}
+use Rattle.bits.proofs.MaskWalk.{Walked, nothing_walked, next_passes, next_within, one_walked}
 use Rattle.octets.proofs.Laid.{length_laid, laid_next}
 use Rattle.class_tables.specs.Built.{cat_of, class_for}
 use Rattle.class_tables.proofs.ClassLaws.{sized_if_there}
@@ -35,20 +34,20 @@ length_values pr b c i o lb w (n ∷ m) s =
     length-append (shown b i x) (values_at (cat_of pr) b c i o m) ∙ omega arith
 
 -- `front` is written over the first `to` bytes of `before`; the attributes of `left` follow
-pub record Packed (pr : Product) (which : Which) (live frozen : List ℕ) (c i o m left to : ℕ) (before now : List ℕ) : Type 0 where
+pub record Packed (pr : Product) (which : Which) (live frozen : List ℕ) (c i o m : ℕ) (left : List ℕ) (to : ℕ) (before now : List ℕ) : Type 0 where
   pub may : Packable pr which live frozen c i o m (length before)
   pub walked : Walked (size_of (class_for pr c)) m left to
   pub front : List ℕ
   pub is : now ≡ laid 0 front before
   pub long : length front ≡ to
-  pub whole : front ++ values_at (cat_of pr) (chosen which live frozen) c i o (named left) ≡ values_at (cat_of pr) (chosen which live frozen) c i o (named m)
+  pub whole : front ++ values_at (cat_of pr) (chosen which live frozen) c i o left ≡ values_at (cat_of pr) (chosen which live frozen) c i o (named m)
 
-pub nothing_packed : (pr : Product) {which : Which} {live frozen : List ℕ} {c i o m : ℕ} {before : List ℕ} → Packable pr which live frozen c i o m (length before)
-    → Packed pr which live frozen c i o m m 0 before before
+pub nothing_packed : (pr : Product) {which : Which} {live frozen : List ℕ} {c i o m left : ℕ} {before : List ℕ} → left ≡ m → Packable pr which live frozen c i o m (length before)
+    → Packed pr which live frozen c i o m (named left) 0 before before
 unfolding laid
-nothing_packed pr {c = c} {m = m} h = record { may = h; walked = nothing_walked (size_of (class_for pr c)) m; front = []; is = refl; long = refl; whole = refl }
+nothing_packed pr {c = c} e h = record { may = h; walked = nothing_walked (size_of (class_for pr c)) e; front = []; is = refl; long = refl; whole = rw e refl }
 
-module _ (pr : Product) {which : Which} {live frozen : List ℕ} {c i o m left to : ℕ} {before now : List ℕ} (p : Packed pr which live frozen c i o m left to before now) where
+module _ (pr : Product) {which : Which} {live frozen : List ℕ} {c i o m to : ℕ} {left before now : List ℕ} (p : Packed pr which live frozen c i o m left to before now) where
   abbrev k : Class
   k = class_for pr c
 
@@ -69,18 +68,18 @@ module _ (pr : Product) {which : Which} {live frozen : List ℕ} {c i o m left t
   length_packed = ap length p.is ∙ length_laid 0 p.front before front_fits
 
   -- the last one is written
-  pub all_packed : left ≡ 0 → now ≡ laid 0 (values_of (named m)) before
+  pub all_packed : left ≡ [] → now ≡ laid 0 (values_of (named m)) before
   unfolding values_at
   all_packed e =
-      let all_of_it : p.front ≡ values_of (named m) = sym (append-nil p.front) ∙ ap (λ (x : List ℕ). p.front ++ values_of x) (sym (none_left e)) ∙ p.whole in
+      let all_of_it : p.front ≡ values_of (named m) = sym (append-nil p.front) ∙ ap (λ (x : List ℕ). p.front ++ values_of x) (sym e) ∙ p.whole in
       p.is ∙ ap (λ (x : List ℕ). laid 0 x before) all_of_it
 
   pub its_entry : Within (cat_of pr) c o
   its_entry = within pr b c i o p.may.shaped p.may.at_its_spot
 
-  module _ {n : ℕ} (f : First left n) where
+  module _ {n : ℕ} {rest : List ℕ} (first : left ≡ n ∷ rest) where
     pub next_there : supported k n ≡ true
-    next_there = next_passes p.walked f (λ n. supported k n) p.may.all_there
+    next_there = next_passes p.walked first (λ n. supported k n) p.may.all_there
 
     module _ {x : Item} (e : x ≡ item_of (cat_of pr) c o n) where
       its_size : x.size ≡ size_of k n
@@ -92,7 +91,7 @@ module _ (pr : Product) {which : Which} {live frozen : List ℕ} {c i o m left t
       next_fits =
           let sx = its_size in
           let z : 0 < size_of k n = sized_if_there pr c n next_there in
-          let w = next_within p.walked f in
+          let w = next_within p.walked first in
           let r = p.may.room_for_all in
           let l = length_packed in
           record {
@@ -105,20 +104,19 @@ module _ (pr : Product) {which : Which} {live frozen : List ℕ} {c i o m left t
           }
 
       -- one more is written
-      pub one_more : {bit : ℕ} {after : List ℕ} → bit ≡ 2 ^ (16 - n) → after ≡ laid to (shown b i x) now
-          → Packed pr which live frozen c i o m (left - bit) (to + x.size) before after
+      pub one_more : {after : List ℕ} → after ≡ laid to (shown b i x) now → Packed pr which live frozen c i o m rest (to + x.size) before after
       unfolding values_at content_at
-      one_more {bit} {after} be y =
+      one_more y =
           let v : List ℕ = shown b i x in
           let lv : length v ≡ x.size = length_shown b i x p.may.shaped.long next_fits.placed in
           let start : to ≡ 0 + length p.front = omega (arith, p.long) in
           record {
             may = p.may;
-            walked = one_walked p.walked f be its_size;
+            walked = one_walked p.walked first its_size;
             front = p.front ++ v;
             is = y ∙ ap (λ (z : ℕ). laid z v now) start ∙ ap (laid (0 + length p.front) v) p.is ∙ laid_next 0 p.front before front_fits v;
             long = length-append p.front v ∙ omega (arith, p.long, lv);
-            whole = append_assoc p.front v (values_of (named (left - bit)))
-                ∙ ap (λ (z : Item). p.front ++ (shown b i z ++ values_of (named (left - bit)))) e
-                ∙ ap (λ (l : List ℕ). p.front ++ values_of l) (sym (and_the_others f be)) ∙ p.whole;
+            whole = append_assoc p.front v (values_of rest)
+                ∙ ap (λ (z : Item). p.front ++ (shown b i z ++ values_of rest)) e
+                ∙ ap (λ (l : List ℕ). p.front ++ values_of l) (sym first) ∙ p.whole;
           }

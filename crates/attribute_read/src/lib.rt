@@ -1,3 +1,4 @@
+#![tactic(auto)]
 // The contents of attributes, read out of the bytes of a table: the live one, or the frozen copy of an upload.
 ghost use Rattle.std.specs.Prelude.{◌≡◌, true, ◌+◌, ◌≤◌, ◌<◌, length, drop};
 ghost use Rattle.rules.specs.Bytes.{byte, bytes, laid};
@@ -151,14 +152,11 @@ pub fn pack<'a>(
     ensures { out.new
         ≡ laid 0 (values_at (cat_of product) (chosen which live.now frozen.now) what.class what.number what.at (named what.mask)) out.old }
 {
-    let mut left = what.mask;
     let mut to = 0;
-    while left != 0 {
-        let n = bits::first_named(left);
+    for n in bits::named(what.mask) {
         let x = item_for(product, what.class, n, what.at);
         let size = x.size;
         put(live, frozen, which, what.number, x, out, to);
         to += size;
-        left -= bits::bit_of(n);
     }
 }

@@ -11,8 +11,7 @@ use Rattle.rules.specs.Masks.{named}
 use Rattle.rules.specs.Catalogue.{copied, stored, Class, attribute, supported, size_of, is_stored, stored_numbers, leader}
 use Rattle.store.specs.Layout.{contents_width}
 use Rattle.rules.proofs.Laws.{never, both, eqb_eq, and_true, or_cases, among_here}
-use Rattle.bits.specs.Firsts as bits
-use Rattle.bits.proofs.MaskWalk.{none_left, and_the_others, Walked, nothing_walked, next_named, next_passes, one_walked}
+use Rattle.bits.proofs.MaskWalk.{Walked, nothing_walked, next_named, next_passes, one_walked}
 use Rattle.class_tables.specs.declared.Attribute.{Attribute}
 use Rattle.class_tables.specs.declared.Way.TheVariants.{First, Carried, Copied, OfCreator, CountOf}
 use Rattle.class_tables.specs.Built.{cat_of, class_for}
@@ -119,36 +118,36 @@ module _ (pr : Product) (c n at : ℕ) (from b : List ℕ) (h : LayingFirsts (cl
 -- ---- one attribute after another
 
 -- nothing is cut off for them, so that each counts as no bytes
-pub record FirstsLaid (k lead : Class) (at m : ℕ) (from b₀ b : List ℕ) (left : ℕ) : Type 0 where
+pub record FirstsLaid (k lead : Class) (at m : ℕ) (from b₀ b left : List ℕ) : Type 0 where
   pub walked : Walked (λ n. 0) m left 0
-  pub so_far : laid_values k at (firsts k lead from (named left)) b ≡ laid_values k at (firsts k lead from (named m)) b₀
+  pub so_far : laid_values k at (firsts k lead from left) b ≡ laid_values k at (firsts k lead from (named m)) b₀
   pub may : LayingFirsts k lead at (named m) from b₀
   pub long : length b ≡ length b₀
 
-pub no_firsts : (k lead : Class) (at m : ℕ) (from b : List ℕ) → LayingFirsts k lead at (named m) from b → FirstsLaid k lead at m from b b m
-no_firsts k lead at m from b h = record { walked = nothing_walked (λ n. 0) m; so_far = refl; may = h; long = refl }
+pub no_firsts : (k lead : Class) (at : ℕ) (from b : List ℕ) {m left : ℕ} → left ≡ m → LayingFirsts k lead at (named m) from b
+    → FirstsLaid k lead at m from b b (named left)
+no_firsts k lead at from b e h = record { walked = nothing_walked (λ n. 0) e; so_far = rw e refl; may = h; long = refl }
 
-module _ (k lead : Class) {at m : ℕ} {from b₀ b : List ℕ} {left : ℕ} (s : FirstsLaid k lead at m from b₀ b left) where
-  pub all_firsts : left ≡ 0 → b ≡ laid_values k at (firsts k lead from (named m)) b₀
+module _ (k lead : Class) {at m : ℕ} {from b₀ b left : List ℕ} (s : FirstsLaid k lead at m from b₀ b left) where
+  pub all_firsts : left ≡ [] → b ≡ laid_values k at (firsts k lead from (named m)) b₀
   unfolding laid_values firsts
-  all_firsts e = rw (none_left e) at s.so_far
+  all_firsts e = rw e at s.so_far
 
-  module _ {n : ℕ} (f : bits.First left n) where
+  module _ {n : ℕ} {rest : List ℕ} (first : left ≡ n ∷ rest) where
     -- the next one may be laid
     pub one_may : LayingFirsts k lead at (n ∷ []) from b
     unfolding all among
     one_may = record {
-      are_stored = and_true (next_passes s.walked f (λ i. among i (stored_numbers k)) s.may.are_stored) refl;
+      are_stored = and_true (next_passes s.walked first (λ i. among i (stored_numbers k)) s.may.are_stored) refl;
       inside = let i = s.may.inside in let l = s.long in omega arith;
-      copied_from = λ i j a e. s.may.copied_from i j (or_cases a (λ q. rw (eqb_eq i n q) (next_named s.walked f)) (λ q. never q)) e;
+      copied_from = λ i j a e. s.may.copied_from i j (or_cases a (λ q. rw (eqb_eq i n q) (next_named s.walked first)) (λ q. never q)) e;
     }
 
-    pub one_first : {bit : ℕ} {b' : List ℕ} → bit ≡ 2 ^ (16 - n) → b' ≡ laid_values k at (firsts k lead from (n ∷ [])) b → length b' ≡ length b
-        → FirstsLaid k lead at m from b₀ b' (left - bit)
+    pub one_first : {b' : List ℕ} → b' ≡ laid_values k at (firsts k lead from (n ∷ [])) b → length b' ≡ length b → FirstsLaid k lead at m from b₀ b' rest
     unfolding laid_values firsts
-    one_first e y len = record {
-      walked = one_walked s.walked f e refl;
-      so_far = rw y (rw (and_the_others f e) at s.so_far);
+    one_first y len = record {
+      walked = one_walked s.walked first refl;
+      so_far = rw y (rw first at s.so_far);
       may = s.may;
       long = len ∙ s.long;
     }

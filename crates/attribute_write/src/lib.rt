@@ -1,3 +1,4 @@
+#![tactic(auto)]
 // Values laid into an instance's contents in the bytes of a table, one attribute after another.
 ghost use Rattle.std.specs.Prelude.{◌≡◌, [], ◌∷◌, ◌+◌, ◌≤◌, length};
 ghost use Rattle.rules.specs.Bytes.{bytes, laid};
@@ -17,14 +18,11 @@ pub fn lay_values(b: &mut [u8], at: usize, product: Product, class: u16, asked: 
     ensures { b.new ≡ laid_values (class_for product class) at (cut (size_of (class_for product class)) (named asked) v.now) b.old }
 {
     let sizes = sizes::sizes(product, class);
-    let mut left = asked;
     let mut from = 0;
-    while left != 0 {
-        let n = bits::first_named(left);
+    for n in bits::named(asked) {
         let end = from + bits::digit(sizes, n);
         octets::copy_in(b, at + begins::begin_of(product, class, n), &v[from..end]);
         from = end;
-        left -= bits::bit_of(n);
     }
 }
 
@@ -34,11 +32,9 @@ fn put_bytes(b: &mut [u8], at: usize, size: usize, x: u16)
     ensures { b.new ≡ laid at (bytes size x) b.old }
 {
     let mut rest = x;
-    let mut i = size;
-    while i > 0 {
-        i -= 1;
+    for i in (0..size).rev() {
         b[at + i] = octets::low(rest);
-        rest = rest / 256;
+        rest /= 256;
     }
 }
 
@@ -70,10 +66,7 @@ pub fn lay_firsts(b: &mut [u8], at: usize, product: Product, class: u16, asked: 
     ensures { b.new
         ≡ laid_values (class_for product class) at (firsts (class_for product class) (leading_class product class) from.now (named asked)) b.old }
 {
-    let mut left = asked;
-    while left != 0 {
-        let n = bits::first_named(left);
+    for n in bits::named(asked) {
         lay_first(b, at, product, class, n, from);
-        left -= bits::bit_of(n);
     }
 }

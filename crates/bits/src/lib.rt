@@ -1,5 +1,7 @@
+#![tactic(auto)]
 // Masks of attributes, a digit for each attribute, bitmaps of alarms, and the numbers that go from 255 back to 1.
 ghost use Rattle.std.specs.Prelude.{◌≡◌, ◌-◌, ◌^◌, ◌<◌, ◌≤◌, false, ◌≢◌, length, bit_and, slice_index_or, slice_set};
+ghost use Rattle.std.specs.Iterator.{YieldsFirst, item_count};
 ghost use Rattle.rules.specs.Bytes.{bits, bits_from};
 ghost use Rattle.rules.specs.Masks.{named};
 ghost use Rattle.rules.specs.Messages.{next_number};
@@ -10,8 +12,7 @@ ghost use Rattle.bits.specs.Firsts.{First};
 pub fn next_number(x: u8) -> u8
     ensures { result ≡ next_number x }
 {
-    let y = std::num::wrapping_add_u8(x, 1);
-    if y == 0 { 1 } else { y }
+    x.checked_add(1).unwrap_or(1)
 }
 
 // The mask of attribute n alone.
@@ -27,14 +28,44 @@ pub fn first_named(mask: u16) -> u16
     requires { mask ≢ 0 }
     ensures { First mask result }
 {
-    (u16::leading_zeros(mask) + 1) as u16
+    (mask.leading_zeros() + 1) as u16
+}
+
+// The attributes that a mask names, one after another, in order.
+#[derive(Drop)]
+pub struct Attributes {
+    left: u16,
+}
+
+// The attributes that a mask names.
+pub fn named(mask: u16) -> Attributes
+    ensures { result.left ≡ mask }
+{
+    Attributes { left: mask }
+}
+
+impl Iterator for Attributes {
+    type Item = u16;
+
+    ghost next_gives = { YieldsFirst (λ s. named s.left) };
+
+    ghost remaining = { item_count (λ s. named s.left) };
+
+    fn next(&mut self) -> Option<u16> {
+        if self.left == 0 {
+            return None;
+        }
+        let n = first_named(self.left);
+        self.left -= bit_of(n);
+        Some(n)
+    }
 }
 
 // How many attributes a mask names.
 pub fn how_many(mask: u16) -> u32
     ensures { result ≡ length (named mask) }
 {
-    u16::count_ones(mask)
+    mask.count_ones()
 }
 
 // The attributes of a mask that are not in another.

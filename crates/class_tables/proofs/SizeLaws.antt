@@ -8,7 +8,6 @@ use Rattle.rules.specs.Masks.{attribute_numbers}
 use Rattle.rules.specs.Catalogue.{Class, supported, size_of}
 use Rattle.rules.proofs.Laws.{eqb_eq, all_among, has_among}
 use Rattle.bits.specs.Digits.{digit}
-use Rattle.bits.specs.Firsts.{First}
 use Rattle.bits.proofs.Masks.{numbers_among, within_among}
 use Rattle.class_tables.specs.Built.{class_for}
 use Rattle.class_tables.specs.Sizes.{size_digits}
@@ -27,12 +26,8 @@ size_in_digits pr c n h i =
     (all_among (size_read k) attribute_numbers (of_each (λ k. all (size_read k) attribute_numbers) (unfold computing_tables digit in (refl, refl)) pr c)
     n (numbers_among n h i))
 
-read_off : (pr : Product) (c n : ℕ) {x r : ℕ} → 1 ≤ n → n ≤ 16 → x ≡ size_digits (class_for pr c) → r ≡ digit x n → r ≡ size_of (class_for pr c) n
+pub read_off : (pr : Product) (c n : ℕ) {x r : ℕ} → 1 ≤ n → n ≤ 16 → x ≡ size_digits (class_for pr c) → r ≡ digit x n → r ≡ size_of (class_for pr c) n
 read_off pr c n h i e d = d ∙ ap (λ (x : ℕ). digit x n) e ∙ size_in_digits pr c n h i
-
--- the digit of the first attribute that a mask names
-pub first_sized : (pr : Product) (c : ℕ) {x r left n : ℕ} → First left n → x ≡ size_digits (class_for pr c) → r ≡ digit x n → r ≡ size_of (class_for pr c) n
-first_sized pr c {n = n} f e d = read_off pr c n f.from_one f.to_sixteen e d
 
 -- an attribute that a class has is one of sixteen, and its size is read off
 pub is_numbered : (pr : Product) (c n : ℕ) → supported (class_for pr c) n ≡ true → (1 ≤ n) × (n ≤ 16)

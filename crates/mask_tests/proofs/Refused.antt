@@ -11,7 +11,6 @@ use Rattle.rules.specs.Masks.{in_mask, named, mask, total}
 use Rattle.rules.specs.Catalogue.{attribute, supported, size_of}
 use Rattle.rules.specs.Commands.{unsupported, unwritable}
 use Rattle.bits.specs.Digits.{digit}
-use Rattle.bits.specs.Firsts.{First}
 use Rattle.bits.proofs.MaskWalk.{Walked, next_within}
 use Rattle.bits.proofs.Masks.{Within, named_within, named_few, numbers_among, those_same, those_those, mask_named, named_and, in_mask_not}
 use Rattle.class_tables.specs.Built.{class_for}
@@ -62,8 +61,8 @@ module _ (x : ℕ) where
   total_small (n ∷ l) = let z = total_small l in omega arith
 
   -- the next one's bytes can be added
-  pub next_small : {m left sum n : ℕ} → Walked (digit x) m left sum → First left n → sum + digit x n ≤ 240
-  next_small {m} w f = let z = next_within w f in let t = total_small (named m) in let few = named_few m in omega arith
+  pub next_small : {m sum n : ℕ} {left rest : List ℕ} → Walked (digit x) m left sum → left ≡ n ∷ rest → sum + digit x n ≤ 240
+  next_small {m} w first = let z = next_within w first in let t = total_small (named m) in let few = named_few m in omega arith
 
 module _ (pr : Product) (c x : ℕ) (e : x ≡ size_digits (class_for pr c)) where
   total_within : (b : ℕ) (l : List ℕ) → 1 ≤ b → Within b l → total (digit x) l ≡ total (size_of (class_for pr c)) l

@@ -1,3 +1,4 @@
+#![tactic(auto)]
 // The mask of a Set or a Get, weighed against what its class has.
 ghost use Rattle.std.specs.Prelude.{◌≡◌};
 ghost use Rattle.rules.specs.Masks.{named, mask, total};
@@ -28,12 +29,9 @@ pub fn total_size(product: Product, class: u16, asked: u16) -> usize
     ensures { result ≡ total (size_of (class_for product class)) (named asked) }
 {
     let sizes = sizes::sizes(product, class);
-    let mut left = asked;
     let mut sum = 0;
-    while left != 0 {
-        let n = bits::first_named(left);
+    for n in bits::named(asked) {
         sum += bits::digit(sizes, n);
-        left -= bits::bit_of(n);
     }
     sum
 }
