@@ -11,7 +11,7 @@ pub returns-in-Listed : goal.returns-in-Listed
 returns-in-Listed c = judged_listed _ _ _ _ _ c.in-Listed.is c.fine_if-in-Listed.ensures
 
 pub returns-then-is_none-condition : goal.returns-then-is_none-condition
-returns-then-is_none-condition c = judged_pointer _ _ _ _ c.in-Pointer.is (rw c.is_none.ensures at c.if-is_none-condition.true)
+returns-then-is_none-condition c = judged_pointer _ _ _ _ c.in-Pointer.is _ c.is_none.ensures c.if-is_none-condition.true
 
 pub returns-else-is_none-condition : goal.returns-else-is_none-condition
-returns-else-is_none-condition c = not_judged _ _ _ _ c.in-Pointer.is (rw c.is_none.ensures at c.if-is_none-condition.false)
+returns-else-is_none-condition c = not_judged _ _ _ _ c.in-Pointer.is _ c.is_none.ensures c.if-is_none-condition.false
