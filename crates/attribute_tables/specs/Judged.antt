@@ -1,5 +1,5 @@
 -- What judging a content by a line of the tables says.
-use Rattle.std.specs.Prelude.{ℕ, ◌≡◌, Bool, true, false, ◌≢◌, List}
+use Rattle.std.specs.Prelude.{ℕ, ◌≡◌, Bool, true, false, List, Some}
 use Rattle.rules.specs.Bytes.{number}
 use Rattle.rules.specs.Catalogue as rules
 use Rattle.class_tables.specs.declared.Rule.TheVariants.{Any}
@@ -19,6 +19,6 @@ verdict_of (Asks c i) = rules.asks c i
 
 -- r is the verdict on every content that holds the number `value`, where the attribute that the rule looks at holds `condition`
 pub record Judged (a : Attribute) (value condition : ℕ) (r : Verdict) : Type 0 where
-  pub says : (v : List ℕ) (others : ℕ → List ℕ) → number v ≡ value → (a.only_if ≢ 0 → number (others a.only_if) ≡ condition)
+  pub says : (v : List ℕ) (others : ℕ → List ℕ) → number v ≡ value → ((n : ℕ) → a.only_if ≡ Some n → number (others n) ≡ condition)
       → verdict_of r ≡ (meaning a).rule v others
   pub if_any : a.rule ≡ Any → r ≡ Fine

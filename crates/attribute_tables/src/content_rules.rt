@@ -70,17 +70,17 @@ pub fn rule_of(product: Product, class: u16, n: u16) -> Rule
     }
 }
 
-// By which attribute of its instance a pointer is judged: only where that one's content is 1; the number 0 stands for none.
-pub fn only_if_of(product: Product, class: u16, n: u16) -> u16
+// By which attribute of its instance a pointer is judged, if by one: only where that one's content is 1.
+pub fn only_if_of(product: Product, class: u16, n: u16) -> Option<u16>
     requires { supported (class_for product class) n ≡ true }
     ensures { result ≡ (line_for product class n).only_if }
 {
     match class {
         47 => match n {
             // TPPointer, by TPType
-            4 => 3,
-            _ => 0,
+            4 => Some(3),
+            _ => None,
         },
-        _ => 0,
+        _ => None,
     }
 }

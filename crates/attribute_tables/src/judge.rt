@@ -21,7 +21,7 @@ pub fn judge(a: Attribute, value: u16, condition: u16) -> Verdict
         Rule::Range(low, high) => fine_if((low <= value) & (value <= high)),
         Rule::Listed(one, other) => fine_if((value == one) | (value == other)),
         Rule::Pointer(class) => {
-            if (only_if == 0) | (condition == 1) {
+            if only_if.is_none() | (condition == 1) {
                 Verdict::Asks(class, value)
             } else {
                 Verdict::Fine

@@ -1,5 +1,7 @@
 // The attributes of each class, a line each, in the order of document 01, and whether a content is legal by its line; and of each attribute alone where
 // its content begins, how it is read, its rule, and what a pointer is judged by.
+#![tactic(auto)]
+
 pub mod begins;
 pub mod content_rules;
 pub mod judge;
@@ -24,7 +26,7 @@ fn one(size: usize, at: usize, rights: Rights, way: Way, rule: Rule) -> Attribut
         avc: false,
         way,
         rule,
-        only_if: 0,
+        only_if: None,
     }
 }
 
@@ -53,18 +55,17 @@ fn absent() -> Attribute
 fn notified(a: Attribute) -> Attribute
     ensures { result ≡ with_avc a }
 {
-    let mut b = a;
-    b.avc = true;
-    b
+    Attribute { avc: true, ..a }
 }
 
 // Its pointer is judged only where attribute `number` is 1.
 fn judged_if(number: u16, a: Attribute) -> Attribute
     ensures { result ≡ judged_if number a }
 {
-    let mut b = a;
-    b.only_if = number;
-    b
+    Attribute {
+        only_if: Some(number),
+        ..a
+    }
 }
 
 // 2 ONT data

@@ -7,7 +7,7 @@ ghost use Rattle.attribute_tables.specs.Readings.{reading_by};
 use class_tables::Product;
 
 // How an attribute is read: from its own bytes, or from elsewhere.
-#[derive(Clone, Copy)]
+#[derive(Clone, Copy, Debug, PartialEq, Eq)]
 pub enum Reading {
     Own,
     // this attribute of the created instance that its own came with

@@ -1,10 +1,12 @@
 -- The classes of the products: which there are, what leads them and what comes with them.
-use Prim.Native.Nat.{ℕ, ◌+◌, ◌≤◌, ◌<◌, suc}
+use Prim.Native.Nat.{ℕ, ◌+◌, ◌≤◌, ◌<◌}
 use native.Mathlib.Omega.{arith}
 use mathlib.Core.Path.{◌≡◌, refl, sym, ◌∙◌, ap}
 use mathlib.Core.Bool.{true, false}
 use mathlib.Core.List.{List, [], ◌∷◌, map}
-use lib.ListN.{length, drop, get_or, get_or-eq_default}
+use lib.ListN.{length, drop}
+use Rattle.std.specs.Prelude.{Option, Some, None, slice_get}
+use Rattle.std.proofs.lemmas.Option.{slice_get_past}
 use lib.Dec.{eqb, leb}
 use Rattle.rules.specs.Maps.{◌and◌, rising, keys, among, all, same, empty}
 use Rattle.rules.specs.Catalogue.{known, no_class, attribute, supported, size_of, is_stored, stored_numbers, is_created, lead, leader, family, class, ont_data, Catalogue}
@@ -28,18 +30,15 @@ use Rattle.rules.proofs.MapLaws.{Up, rising_up}
 -- ---- which there are
 
 -- the class at one of these places, and none past the last
-pub class_there : (i : ℕ) {j x : ℕ} (pr : Product) → j ≡ i → Passed (λ cat. eqb x (get_or (keys cat.classes) i 0)) → x ≡ get_or (keys (cat_of pr).classes) j 0
-class_there i pr e h = rw e (same_number (λ cat. get_or (keys cat.classes) i 0) h pr)
+pub class_there : (i : ℕ) {j : ℕ} {x small large meter : Option ℕ} (pr : Product) → j ≡ i → x ≡ by_product pr small large meter
+    → (small ≡ slice_get (keys (cat_of built.Small).classes) i) × (large ≡ slice_get (keys (cat_of built.Large).classes) i) × (meter ≡ slice_get (keys (cat_of built.Meter).classes) i)
+    → x ≡ slice_get (keys (cat_of pr).classes) j
+class_there i pr e g h = rw e (in_its_product (λ pr x. x ≡ slice_get (keys (cat_of pr).classes) i) pr g h)
 
-pub class_by_product : (i : ℕ) {j x small large meter : ℕ} (pr : Product) → j ≡ i → x ≡ by_product pr small large meter
-    → (small ≡ get_or (keys (cat_of built.Small).classes) i 0) × (large ≡ get_or (keys (cat_of built.Large).classes) i 0) × (meter ≡ get_or (keys (cat_of built.Meter).classes) i 0)
-    → x ≡ get_or (keys (cat_of pr).classes) j 0
-class_by_product i pr e g h = rw e (in_its_product (λ pr x. x ≡ get_or (keys (cat_of pr).classes) i 0) pr g h)
-
-pub no_class_there : (n : ℕ) (pr : Product) (j : ℕ) → n ≤ j → Passed (λ cat. leb (length (keys cat.classes)) n) → 0 ≡ get_or (keys (cat_of pr).classes) j 0
+pub no_class_there : (n : ℕ) (pr : Product) (j : ℕ) → n ≤ j → Passed (λ cat. leb (length (keys cat.classes)) n) → None ≡ slice_get (keys (cat_of pr).classes) j
 no_class_there n pr j h g =
     let few : length (keys (cat_of pr).classes) ≤ n = leb_le (length (keys (cat_of pr).classes)) n (in_each (λ cat. leb (length (keys cat.classes)) n) g pr) in
-    sym (get_or-eq_default (keys (cat_of pr).classes) 0 (omega arith))
+    sym (slice_get_past (keys (cat_of pr).classes) j (omega arith))
 
 pub is_known : (c : ℕ) {m : ℕ} (pr : Product) → m ≡ c → Passed (λ cat. known cat c) → true ≡ known (cat_of pr) m
 is_known c pr e h = rw e (sym (in_each (λ cat. known cat c) h pr))
@@ -73,7 +72,7 @@ starts_at_0 pr c listed a h = sym (eqb_eq (inside (cat_of pr) c) 0
     (λ e. eqb_true (inside (cat_of pr) c) 0 (unknown_inside pr c e))))
 
 -- a class that nothing comes with
-pub alone : (pr : Product) (c : ℕ) (listed : List ℕ) → Avoids c listed → Each listed (λ cat d k. empty (drop 1 (keys (family cat d)))) → Companion pr c 0
+pub alone : (pr : Product) (c : ℕ) (listed : List ℕ) → Avoids c listed → Each listed (λ cat d k. empty (drop 1 (keys (family cat d)))) → Companion pr c None
 unfolding keys
 alone pr c listed a h = empty_none (drop 1 (keys (family (cat_of pr) c)))
     (elsewhere (λ cat d k. empty (drop 1 (keys (family cat d)))) pr c listed a h
@@ -106,28 +105,28 @@ module _ (pr : Product) (c : ℕ) (cr : is_created (class_for pr c).creation ≡
       let led : leader cat c ≡ c = (in_family cat (well_formed_of pr) c c (rw (leads_its_family pr c cr) (among_here c (drop 1 (keys (family cat c)))))).1 in
       rw (led, family_led, eqb_true c c refl) refl
 
-  module _ (d : ℕ) (q : Companion pr c (suc d)) where
-    pair_is : keys (family cat c) ≡ c ∷ suc d ∷ []
+  module _ (d : ℕ) (q : Companion pr c (Some d)) where
+    pair_is : keys (family cat c) ≡ c ∷ d ∷ []
     pair_is = leads_its_family pr c cr ∙ ap (λ (l : List ℕ). c ∷ l) (sym q)
 
-    pub companion_led : leader cat (suc d) ≡ c
+    pub companion_led : leader cat d ≡ c
     unfolding among
-    companion_led = (in_family cat (well_formed_of pr) c (suc d) (rw pair_is (or_right (eqb (suc d) c) (among_here (suc d) [])))).1
+    companion_led = (in_family cat (well_formed_of pr) c d (rw pair_is (or_right (eqb d c) (among_here d [])))).1
 
-    companion_later : c < suc d
-    companion_later = let u : Up 0 (c ∷ suc d ∷ []) = rising_up (c ∷ suc d ∷ []) (rw pair_is at (family_rises cat (well_formed_of pr) c)) in u.1.0
+    companion_later : c < d
+    companion_later = let u : Up 0 (c ∷ d ∷ []) = rising_up (c ∷ d ∷ []) (rw pair_is at (family_rises cat (well_formed_of pr) c)) in u.1.0
 
     -- its contents follow
-    pub companion_follows : inside cat (suc d) ≡ contents_width (class_for pr c)
+    pub companion_follows : inside cat d ≡ contents_width (class_for pr c)
     unfolding before
     companion_follows =
         let later = companion_later in
-        rw (companion_led, family_by_numbers cat (well_formed_of pr) c, pair_is, eqb_false (suc d) c (omega arith), eqb_true (suc d) (suc d) refl) (omega arith)
+        rw (companion_led, family_by_numbers cat (well_formed_of pr) c, pair_is, eqb_false d c (omega arith), eqb_true d d refl) (omega arith)
 
-    pub companion_not_created : is_created (class_for pr (suc d)).creation ≡ false
-    companion_not_created = cases (is_created (class_for pr (suc d)).creation)
+    pub companion_not_created : is_created (class_for pr d).creation ≡ false
+    companion_not_created = cases (is_created (class_for pr d).creation)
         (λ e.
-        let itself : leader cat (suc d) ≡ suc d = lookups.leads_itself (suc d) (class_for pr (suc d)).creation e in
+        let itself : leader cat d ≡ d = lookups.leads_itself d (class_for pr d).creation e in
         let led = companion_led in
         let later = companion_later in
         absurd (omega arith))

@@ -6,6 +6,7 @@ use mathlib.Core.Bool.{Bool, true, false, not}
 use mathlib.Core.Option.{none, some}
 use mathlib.Core.List.{List, [], ◌∷◌}
 use lib.Dec.{eqb}
+use Rattle.std.specs.Prelude.{Result, Ok, Err}
 use Rattle.rules.specs.Maps.{◌or◌, Map, find, every, keys, among, all, same, empty}
 use Rattle.rules.specs.Catalogue.{Class, Catalogue, class, known, no_class}
 use Rattle.rules.specs.WellFormed.{WellFormed}
@@ -16,7 +17,7 @@ use Rattle.store.specs.Layout.{fits}
 use Rattle.store.proofs.Built.{built_products_fit}
 use Rattle.class_tables.specs.declared.Product.{Product}
 use Rattle.class_tables.specs.declared.Product.TheVariants as built
-use Rattle.class_tables.specs.declared.Named.TheVariants.{Is, Nothing}
+use Rattle.class_tables.specs.declared.NotBuilt.{NotBuilt}
 use Rattle.class_tables.specs.Built.{cat_of, class_for, product_of, by_product, Names}
 use Rattle.class_tables.proofs.Matches.{Avoids, avoided, not_there}
 
@@ -41,20 +42,20 @@ pub fits_of : (pr : Product) → fits (cat_of pr) ≡ true
 fits_of pr = built_products_fit.fit (product_of pr) (cat_of pr) (product_found pr)
 
 -- what a number names
-pub names_built : (pr : Product) {n : ℕ} → product_of pr ≡ n → Names n (Is pr)
+pub names_built : (pr : Product) {n : ℕ} → product_of pr ≡ n → Names n (Ok pr)
 names_built pr e = record { found = sym (rw (← e) (product_found pr)); its_number = λ q h. rw (← same_product h) e }
   where
-    same_product : {q : Product} → Is pr ≡ Is q → pr ≡ q
+    same_product : {q : Product} → ◌≡◌ {A = Result Product NotBuilt} (Ok pr) (Ok q) → pr ≡ q
     same_product h = cc
 
-pub names_nothing : (listed : List ℕ) (n : ℕ) → Avoids n listed → all (λ p. among p listed) (keys built_products) ≡ true → Names n Nothing
-names_nothing listed n a h = record {
+pub names_nothing : (listed : List ℕ) (n : ℕ) {e : NotBuilt} → Avoids n listed → all (λ p. among p listed) (keys built_products) ≡ true → Names n (Err e)
+names_nothing listed n {e} a h = record {
   found = sym (not_found n built_products (not_there n listed (keys built_products) a h));
-  its_number = λ pr e. absurd (nothing_named e);
+  its_number = λ pr q. absurd (nothing_named q);
 }
   where
-    nothing_named : {pr : Product} → Nothing ≡ Is pr → ⊥
-    nothing_named e = let z : ◌≡◌ {A = ℕ} 0 1 = cc in omega arith
+    nothing_named : {pr : Product} → ◌≡◌ {A = Result Product NotBuilt} (Err e) (Ok pr) → ⊥
+    nothing_named q = let z : ◌≡◌ {A = ℕ} 0 1 = cc in omega arith
 
 -- what is chosen by product is right if each choice is
 pub in_its_product : {A : Type 0} (P : Product → A → Type 0) {x small large meter : A} (pr : Product) → x ≡ by_product pr small large meter
@@ -62,6 +63,12 @@ pub in_its_product : {A : Type 0} (P : Product → A → Type 0) {x small large 
 in_its_product P built.Small e h = subst (P built.Small) (sym e) h.0
 in_its_product P built.Large e h = subst (P built.Large) (sym e) h.1
 in_its_product P built.Meter e h = subst (P built.Meter) (sym e) h.2
+
+-- the same in every product
+pub in_every_product : {A : Type 0} (x : A) (pr : Product) → x ≡ by_product pr x x x
+in_every_product x built.Small = refl
+in_every_product x built.Large = refl
+in_every_product x built.Meter = refl
 
 -- every product passes a test
 abbrev pub Passed : (Catalogue → Bool) → Type 0

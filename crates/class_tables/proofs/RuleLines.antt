@@ -4,10 +4,11 @@ use mathlib.Core.Path.{◌≡◌, refl, sym, ◌∙◌, ap}
 use mathlib.Core.Bool.{Bool, true}
 use mathlib.Core.Option.{none, some}
 use mathlib.Core.List.{List}
-use lib.Dec.{eqb}
+use Rattle.std.specs.Prelude.{Some, None, is_none}
+use Rattle.std.specs.declared.option.Option as code
 use Rattle.rules.specs.Maps.{◌or◌, Map, find, every, each, among}
 use Rattle.rules.specs.Catalogue.{supported}
-use Rattle.rules.proofs.Laws.{true_false, or_cases, eqb_eq, every_find, find_each}
+use Rattle.rules.proofs.Laws.{never, true_false, or_cases, every_find, find_each}
 use Rattle.rules.proofs.MapLaws.{some_eq, none_some}
 use Rattle.class_tables.specs.declared.Rule.{Rule}
 use Rattle.class_tables.specs.declared.Rule.TheVariants.{Any}
@@ -22,7 +23,7 @@ use Rattle.class_tables.proofs.Tables.{told, any_rule, not_there_if, of_class}
 
 -- ---- it is the same in every product that has the attribute, and Large has them all
 
-abbrev judged_by : Attribute → Rule × ℕ
+abbrev judged_by : Attribute → Rule × code.Option ℕ
 judged_by a = (a.rule, a.only_if)
 
 as_in_large : (pr : Product) → each (λ c m. each (λ n a. judged_by a) m) (lines_of pr) ≡ each (λ c m. each (λ n a. judged_by (line_for Large c n)) m) (lines_of pr)
@@ -77,7 +78,7 @@ module _ (p : Attribute → Bool) (h : p absent_line ≡ true) where
 -- ---- one of the two that a content is judged by, and the value of it that a match leaves to its last arm
 
 pub record Part (A : Type 0) : Type 0 where
-  pub part : Rule × ℕ → A
+  pub part : Rule × code.Option ℕ → A
   pub rest : A
   pub is_rest : A → Bool
   pub rest_if : (x : A) → is_rest x ≡ true → x ≡ rest
@@ -87,8 +88,12 @@ pub record Part (A : Type 0) : Type 0 where
 abbrev pub its_rule : Part Rule
 its_rule = record { part = λ j. j.0; rest = Any; is_rest = is_any; rest_if = any_rule; absent_is_rest = refl }
 
-abbrev pub its_condition : Part ℕ
-its_condition = record { part = λ j. j.1; rest = 0; is_rest = λ x. eqb x 0; rest_if = λ x. eqb_eq x 0; absent_is_rest = refl }
+abbrev pub its_condition : Part (code.Option ℕ)
+its_condition = record { part = λ j. j.1; rest = None; is_rest = is_none; rest_if = no_condition; absent_is_rest = refl }
+  where
+    no_condition : (x : code.Option ℕ) → is_none x ≡ true → x ≡ None
+    no_condition None h = refl
+    no_condition (Some i) h = never h
 
 module _ {A : Type 0} (p : Part A) where
   abbrev part_of : Attribute → A

@@ -13,8 +13,8 @@ use Rattle.rules.specs.Legal.{automatic_keys}
 use Rattle.rules.specs.WellFormed.{implies}
 use Rattle.rules.proofs.Laws.{never, eqb_eq, lt-ltb}
 use Rattle.rules.proofs.Lookups.{implied}
-use Rattle.class_tables.specs.declared.Found.{Found}
-use Rattle.class_tables.specs.declared.Found.TheVariants.{At, Nothing}
+use Rattle.std.specs.Prelude.{Some, None}
+use Rattle.std.specs.declared.option.Option as code
 use Rattle.class_tables.specs.declared.Product.{Product}
 use Rattle.class_tables.specs.declared.Product.TheVariants as built
 use Rattle.class_tables.specs.Built.{cat_of, by_product}
@@ -48,7 +48,7 @@ same_slot c n {j} pr e h =
     rw e (at_it j (position (key c n) (automatic_keys (cat_of pr))) (in_each (λ cat. is_at j (position (key c n) (automatic_keys cat))) h pr))
 
 -- one that has a slot in Large alone
-pub large_slot : (c n j : ℕ) {m : ℕ} {r : Found} (pr : Product) → m ≡ n → r ≡ by_product pr Nothing (At j) Nothing
+pub large_slot : (c n j : ℕ) {m : ℕ} {r : code.Option ℕ} (pr : Product) → m ≡ n → r ≡ by_product pr None (Some j) None
     → (none ≡ position (key c n) (automatic_keys (cat_of built.Small)))
     × (some j ≡ position (key c n) (automatic_keys (cat_of built.Large)))
     × (none ≡ position (key c n) (automatic_keys (cat_of built.Meter)))

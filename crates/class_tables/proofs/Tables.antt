@@ -1,12 +1,14 @@
 -- The lines of the tables are the catalogues' attributes: what computes of them, and what it says of each.
-use Prim.Native.Nat.{ℕ, zero, suc, ◌+◌}
-use mathlib.Core.Logic.{◌≢◌}
+use Prim.Native.Nat.{ℕ, ◌+◌}
 use native.Mathlib.Omega.{arith}
 use mathlib.Core.Path.{◌≡◌, refl, sym, ◌∙◌, ap}
 use mathlib.Core.Bool.{Bool, true, false, not}
 use mathlib.Core.Option.{Option, none, some}
 use mathlib.Core.List.{List, [], ◌++◌}
 use lib.Dec.{eqb, leb}
+use Rattle.std.specs.Prelude.{Some, None}
+use Rattle.std.specs.declared.option.Option as code
+use Rattle.std.proofs.lemmas.Option.{none-some}
 use Rattle.rules.specs.Maps.{◌and◌, ◌or◌, Map, given, find, keys, every, each, among, all}
 use Rattle.rules.specs.Catalogue.{Class, class, no_class, no_attribute, attribute, supported, size_of, is_stored, is_fixed}
 use Rattle.rules.specs.Catalogue as rules
@@ -40,13 +42,13 @@ same_tables Meter = refl
 abbrev may_be_looked_at : Class → ℕ → Bool
 may_be_looked_at k n = supported k n and is_stored (attribute k n).source and is_fixed (attribute k n) and eqb (size_of k n) 1
 
--- what a pointer is judged by may be looked at; 0 stands for nothing
-abbrev looks_right : Class → Rule → ℕ → Bool
+-- what a pointer is judged by may be looked at
+abbrev looks_right : Class → Rule → code.Option ℕ → Bool
 looks_right k Any n = true
 looks_right k (Range low high) n = true
 looks_right k (Listed x y) n = true
-looks_right k (Pointer c) zero = true
-looks_right k (Pointer c) (suc n) = may_be_looked_at k (suc n)
+looks_right k (Pointer c) None = true
+looks_right k (Pointer c) (Some n) = may_be_looked_at k n
 
 -- where a line stands, that it isn't long, that it isn't judged if no u16 holds it, and what it is judged by
 abbrev fits_in : Class → ℕ → Attribute → Bool
@@ -94,14 +96,13 @@ any_rule (Range low high) h = never h
 any_rule (Listed x y) h = never h
 any_rule (Pointer c) h = never h
 
-looks_there : (k : Class) (r : Rule) (n : ℕ) → looks_right k r n ≡ true → (c : ℕ) → r ≡ Pointer c → n ≢ 0 → Looked k n
-looks_there k r zero h c e z = absurd (z refl)
-looks_there k r (suc n) h c e z =
-    let t : may_be_looked_at k (suc n) ≡ true = rw e at h in
+looks_there : (k : Class) (r : Rule) (o : code.Option ℕ) → looks_right k r o ≡ true → (c n : ℕ) → r ≡ Pointer c → o ≡ Some n → Looked k n
+looks_there k r o h c n e f =
+    let t : may_be_looked_at k n ≡ true = rw (e, f) at h in
     let p = both t in
     let q = both p.1 in
     let s = both q.1 in
-    record { is_there = p.0; kept = q.0; fixed = s.0; one = eqb_eq (size_of k (suc n)) 1 s.1 }
+    record { is_there = p.0; kept = q.0; fixed = s.0; one = eqb_eq (size_of k n) 1 s.1 }
 
 module _ (pr : Product) (c n : ℕ) where
   abbrev k : Class
@@ -132,7 +133,7 @@ module _ (pr : Product) (c n : ℕ) where
         small = omega arith;
         near = omega arith;
         wide = λ h. refl;
-        looks = λ d f z. absurd (z refl);
+        looks = λ d i f z. absurd (none-some i z);
       }))
       (λ a e.
       let p = both (there_if a e) in

@@ -1,13 +1,12 @@
 -- The products that are built, as the code tells them apart.
-use Rattle.std.specs.Prelude.{ℕ, ◌≡◌, Bool, true, false}
+use Rattle.std.specs.Prelude.{ℕ, ◌≡◌, Bool, true, false, Result, Ok, Err}
 use Rattle.std.proofs.Math.Option.{Option, none, some}
 use Rattle.rules.specs.Maps.{find}
 use Rattle.rules.specs.Catalogue.{Class, Catalogue, class}
 use Rattle.rules.specs.Products.{Small, Large, Meter, built_products}
 use Rattle.class_tables.specs.declared.Product.{Product}
 use Rattle.class_tables.specs.declared.Product.TheVariants as built
-use Rattle.class_tables.specs.declared.Named.{Named}
-use Rattle.class_tables.specs.declared.Named.TheVariants.{Is, Nothing}
+use Rattle.class_tables.specs.declared.NotBuilt.{NotBuilt}
 
 unfoldable pub cat_of : Product → Catalogue
 cat_of built.Small = Small
@@ -38,11 +37,11 @@ abbrev pub provisioned : Product → Bool
 provisioned pr = by_product pr true true false
 
 -- the catalogue that a number names, as the code told it
-abbrev pub named_catalogue : Named → Option Catalogue
-named_catalogue (Is pr) = some (cat_of pr)
-named_catalogue Nothing = none
+abbrev pub named_catalogue : Result Product NotBuilt → Option Catalogue
+named_catalogue (Ok pr) = some (cat_of pr)
+named_catalogue (Err e) = none
 
 -- r is what the number n names
-pub record Names (n : ℕ) (r : Named) : Type 0 where
+pub record Names (n : ℕ) (r : Result Product NotBuilt) : Type 0 where
   pub found : named_catalogue r ≡ find n built_products
-  pub its_number : (pr : Product) → r ≡ Is pr → product_of pr ≡ n
+  pub its_number : (pr : Product) → r ≡ Ok pr → product_of pr ≡ n

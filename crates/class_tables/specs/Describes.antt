@@ -1,5 +1,5 @@
 -- What a line of the code's tables says of an attribute of a class.
-use Rattle.std.specs.Prelude.{ℕ, ◌+◌, ◌≤◌, ◌<◌, ◌≡◌, ◌≢◌, true}
+use Rattle.std.specs.Prelude.{ℕ, ◌+◌, ◌≤◌, ◌<◌, ◌≡◌, true, Some}
 use Rattle.rules.specs.Catalogue.{Class, attribute, supported, size_of, is_stored, is_fixed, stored_numbers}
 use Rattle.store.specs.Layout.{place_width}
 use Rattle.store.specs.Positions.{offset}
@@ -29,7 +29,7 @@ pub record DescribedIn (k : Class) (n : ℕ) (r : Attribute) : Type 0 where
   -- what no u16 holds isn't judged
   pub wide : 2 < r.size → r.rule ≡ Any
   -- a pointer is judged by another attribute only if rules may look at that
-  pub looks : (c : ℕ) → r.rule ≡ Pointer c → r.only_if ≢ 0 → Looked k r.only_if
+  pub looks : (c i : ℕ) → r.rule ≡ Pointer c → r.only_if ≡ Some i → Looked k i
 
 -- r is the line of attribute n of class c
 pub record Describes (pr : Product) (c n : ℕ) (r : Attribute) : Type 0 where

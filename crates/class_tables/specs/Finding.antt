@@ -1,9 +1,8 @@
--- What the code found, as a position in a list.
-use Rattle.std.specs.Prelude.{ℕ}
-use Rattle.std.proofs.Math.Option.{Option, none, some}
-use Rattle.class_tables.specs.declared.Found.{Found}
-use Rattle.class_tables.specs.declared.Found.TheVariants.{At, Nothing}
+-- An answer of the code that may be missing, as the rules have it.
+use Rattle.std.specs.Prelude.{Option, Some, None}
+use Rattle.std.proofs.Math.Option as rules
+use Rattle.std.proofs.Math.Option.{some, none}
 
-abbrev pub found_of : Found → Option ℕ
-found_of (At j) = some j
-found_of Nothing = none
+abbrev pub found_of : {A : Type 0} → Option A → rules.Option A
+found_of (Some a) = some a
+found_of None = none

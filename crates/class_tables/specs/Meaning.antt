@@ -1,5 +1,5 @@
 -- What a line of the code's tables means: an attribute of a catalogue.
-use Rattle.std.specs.Prelude.{ℕ, zero, suc, Bool, true, false, [], ◌∷◌}
+use Rattle.std.specs.Prelude.{ℕ, Bool, true, false, [], ◌∷◌, Option, Some, None}
 use Rattle.rules.specs.Maps.{Map}
 use Rattle.rules.specs.Bytes.{bytes}
 use Rattle.rules.specs.Catalogue as rules
@@ -16,7 +16,7 @@ use Rattle.class_tables.specs.declared.Unkept.{Unkept}
 -- ---- lines
 
 abbrev pub line : ℕ → ℕ → Rights → Way → Rule → Attribute
-line size at rights way rule = record { size = size; at = at; rights = rights; avc = false; way = way; rule = rule; only_if = 0 }
+line size at rights way rule = record { size = size; at = at; rights = rights; avc = false; way = way; rule = rule; only_if = None }
 
 -- stored, and so much at first; or carried by the Create
 abbrev pub kept_line : ℕ → ℕ → Rights → ℕ → Rule → Attribute
@@ -34,7 +34,7 @@ with_avc a = record { size = a.size; at = a.at; rights = a.rights; avc = true; w
 
 -- judged only where attribute n is 1
 abbrev pub judged_if : ℕ → Attribute → Attribute
-judged_if n a = record { size = a.size; at = a.at; rights = a.rights; avc = a.avc; way = a.way; rule = a.rule; only_if = n }
+judged_if n a = record { size = a.size; at = a.at; rights = a.rights; avc = a.avc; way = a.way; rule = a.rule; only_if = Some n }
 
 -- ---- their meaning
 
@@ -73,12 +73,12 @@ is_kept (Copied n) = true
 is_kept (OfCreator a) = false
 is_kept (CountOf d a) = false
 
--- a pointer's rule, by the attribute that has to be 1
-abbrev pub pointer_rule : ℕ → ℕ → rules.Rule
-pointer_rule c zero = an_existing c
-pointer_rule c (suc n) = existing_where (suc n) 1 c
+-- a pointer's rule, by the attribute that has to be 1, if there is one
+abbrev pub pointer_rule : ℕ → Option ℕ → rules.Rule
+pointer_rule c None = an_existing c
+pointer_rule c (Some n) = existing_where n 1 c
 
-abbrev pub rule_of : Rule → ℕ → rules.Rule
+abbrev pub rule_of : Rule → Option ℕ → rules.Rule
 rule_of Any only_if = any
 rule_of (Range low high) only_if = from low to high
 rule_of (Listed a b) only_if = one_of (a ∷ b ∷ [])
@@ -103,9 +103,6 @@ meaning a = record {
 
 -- ---- what isn't kept
 
-abbrev pub unkept_at : ℕ → ℕ → Map ℕ
-unkept_at zero size = []
-unkept_at (suc n) size = (suc n, size) ∷ []
-
-abbrev pub unkept_of : Unkept → Map ℕ
-unkept_of u = unkept_at u.number u.size
+abbrev pub unkept_of : Option Unkept → Map ℕ
+unkept_of None = []
+unkept_of (Some u) = (u.number, u.size) ∷ []

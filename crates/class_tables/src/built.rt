@@ -2,44 +2,39 @@
 ghost use Rattle.std.specs.Prelude.{◌≡◌};
 ghost use Rattle.class_tables.specs.Built.{product_of, by_product, provisioned, Names};
 
-use super::{Named, Product};
+use super::{NotBuilt, Product};
 
 // The product that a number names: the one place where a byte is turned into a product.
-pub fn product_at(number: u8) -> Named
-    ensures { Names number result }
-{
-    match number {
-        1 => Named::Is(Product::Small),
-        2 => Named::Is(Product::Large),
-        3 => Named::Is(Product::Meter),
-        _ => Named::Nothing,
+impl TryFrom<u8> for Product {
+    type Error = NotBuilt;
+
+    ghost try_from_gives = { Names };
+
+    fn try_from(number: u8) -> Result<Self, NotBuilt> {
+        match number {
+            1 => Ok(Product::Small),
+            2 => Ok(Product::Large),
+            3 => Ok(Product::Meter),
+            _ => Err(NotBuilt),
+        }
     }
 }
 
 // A product's number.
-pub fn number_of(product: Product) -> u8
-    ensures { result ≡ product_of product }
-{
-    match product {
-        Product::Small => 1,
-        Product::Large => 2,
-        Product::Meter => 3,
+impl From<Product> for u8 {
+    ghost from_gives = { λ product number. number ≡ product_of product };
+
+    fn from(product: Product) -> u8 {
+        match product {
+            Product::Small => 1,
+            Product::Large => 2,
+            Product::Meter => 3,
+        }
     }
 }
 
-// One of three numbers, by product.
-pub fn by(product: Product, small: u16, large: u16, meter: u16) -> u16
-    ensures { result ≡ by_product product small large meter }
-{
-    match product {
-        Product::Small => small,
-        Product::Large => large,
-        Product::Meter => meter,
-    }
-}
-
-// One of three long numbers, by product.
-pub fn word_by(product: Product, small: u64, large: u64, meter: u64) -> u64
+// One of three values, by product.
+pub fn by<T: Copy>(product: Product, small: T, large: T, meter: T) -> T
     ensures { result ≡ by_product product small large meter }
 {
     match product {
@@ -53,9 +48,5 @@ pub fn word_by(product: Product, small: u64, large: u64, meter: u64) -> u64
 pub fn provisioned(product: Product) -> bool
     ensures { result ≡ provisioned product }
 {
-    match product {
-        Product::Small => true,
-        Product::Large => true,
-        Product::Meter => false,
-    }
+    by(product, true, true, false)
 }

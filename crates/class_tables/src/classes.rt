@@ -1,5 +1,5 @@
 // What holds of each class as a whole. Where the products agree, `product` isn't asked.
-ghost use Rattle.std.specs.Prelude.{◌≡◌, get_or, eqb};
+ghost use Rattle.std.specs.Prelude.{◌≡◌, slice_get, eqb};
 ghost use Rattle.rules.specs.Maps.{◌and◌, keys, among};
 ghost use Rattle.rules.specs.Catalogue.{ont_data, known, is_created, leader};
 ghost use Rattle.store.specs.Positions.{inside};
@@ -24,17 +24,17 @@ pub fn is_ont_data(class: u16, number: u16) -> bool
 // No product has more classes.
 pub const MOST_CLASSES: usize = 5;
 
-// The j-th class of the product, in rising order; 0 past the last.
-pub fn class_at(product: Product, j: usize) -> u16
-    ensures { result ≡ get_or (keys (cat_of product).classes) j 0 }
+// The j-th class of the product, in rising order, if it has as many.
+pub fn class_at(product: Product, j: usize) -> Option<u16>
+    ensures { result ≡ slice_get (keys (cat_of product).classes) j }
 {
     match j {
-        0 => 2,
-        1 => 11,
-        2 => by(product, 45, 45, 0),
-        3 => by(product, 46, 46, 0),
-        4 => by(product, 47, 47, 0),
-        _ => 0,
+        0 => Some(2),
+        1 => Some(11),
+        2 => by(product, Some(45), Some(45), None),
+        3 => by(product, Some(46), Some(46), None),
+        4 => by(product, Some(47), Some(47), None),
+        _ => None,
     }
 }
 
@@ -83,13 +83,13 @@ pub fn leader_of(product: Product, class: u16) -> u16
     }
 }
 
-// The class whose instances come with the class's own; 0: none.
-pub fn companion_of(product: Product, class: u16) -> u16
+// The class whose instances come with the class's own, if there is one.
+pub fn companion_of(product: Product, class: u16) -> Option<u16>
     ensures { Companion product class result }
 {
     match class {
-        45 => by(product, 46, 46, 0),
-        _ => 0,
+        45 => by(product, Some(46), Some(46), None),
+        _ => None,
     }
 }
 
@@ -98,11 +98,7 @@ pub fn inside(product: Product, class: u16) -> usize
     ensures { result ≡ inside (cat_of product) class }
 {
     match class {
-        46 => match product {
-            Product::Small => 11,
-            Product::Large => 11,
-            Product::Meter => 0,
-        },
+        46 => by(product, 11, 11, 0),
         _ => 0,
     }
 }
@@ -117,18 +113,13 @@ pub fn alarm_declared(product: Product, class: u16, alarm: u8) -> bool
     }
 }
 
-pub fn unkept(product: Product, class: u16) -> Unkept
+// What a Create of the class carries behind the rest and the product doesn't keep, if there is such an attribute.
+pub fn unkept(product: Product, class: u16) -> Option<Unkept>
     ensures { unkept_of result ≡ (class_for product class).unkept }
 {
     match class {
         // Small's port configuration doesn't keep LANFCSInd
-        47 => {
-            match product {
-                Product::Small => Unkept { number: 9, size: 1 },
-                Product::Large => Unkept { number: 0, size: 0 },
-                Product::Meter => Unkept { number: 0, size: 0 },
-            }
-        }
-        _ => Unkept { number: 0, size: 0 },
+        47 => by(product, Some(Unkept { number: 9, size: 1 }), None, None),
+        _ => None,
     }
 }

@@ -1,27 +1,26 @@
 // What the engine knows of a class, as tables: the products' catalogues as code. Beside it `attribute_tables` has what is known of each attribute, and
 // `class_tests`, `slot_tests` and `place_runs` test a whole store's contents; no other crate has a branch for a class or a product.
+#![tactic(auto)]
+
 pub mod built;
 pub mod classes;
 pub mod masks;
 pub mod sizes;
 pub mod slots;
 
-#[derive(Clone, Copy)]
+#[derive(Clone, Copy, Debug, PartialEq, Eq)]
 pub enum Product {
     Small,
     Large,
     Meter,
 }
 
-// What a number names: a product, or nothing that is built.
-#[derive(Clone, Copy)]
-pub enum Named {
-    Is(Product),
-    Nothing,
-}
+// A number that no built product has.
+#[derive(Clone, Copy, Debug, PartialEq, Eq)]
+pub struct NotBuilt;
 
 // What contents of an attribute are legal.
-#[derive(Clone, Copy)]
+#[derive(Clone, Copy, Debug, PartialEq, Eq)]
 pub enum Rule {
     Any,
     // from the first to the second
@@ -33,7 +32,7 @@ pub enum Rule {
 }
 
 // Every attribute can be read; these are its further rights.
-#[derive(Clone, Copy)]
+#[derive(Clone, Copy, Debug, PartialEq, Eq)]
 pub enum Rights {
     R,
     W,
@@ -43,7 +42,7 @@ pub enum Rights {
 }
 
 // Where an attribute's content comes from.
-#[derive(Clone, Copy)]
+#[derive(Clone, Copy, Debug, PartialEq, Eq)]
 pub enum Way {
     // stored, and this number at first
     First(u16),
@@ -57,7 +56,7 @@ pub enum Way {
     CountOf(u16, u16),
 }
 
-#[derive(Clone, Copy)]
+#[derive(Clone, Copy, Debug, PartialEq, Eq)]
 pub struct Attribute {
     pub size: usize,
     // where it stands in its instance's stored contents; 0 if it isn't stored
@@ -67,33 +66,26 @@ pub struct Attribute {
     pub avc: bool,
     pub way: Way,
     pub rule: Rule,
-    // a pointer is judged only where this attribute of its instance is 1; 0: always
-    pub only_if: u16,
+    // a pointer is judged only where this attribute of its instance is 1; none: always
+    pub only_if: Option<u16>,
 }
 
-// What a Create carries behind the rest, that must be zero and isn't kept; number 0: nothing.
-#[derive(Clone, Copy)]
+// An attribute that a Create carries behind the rest, that must be zero and isn't kept.
+#[derive(Clone, Copy, Debug, PartialEq, Eq)]
 pub struct Unkept {
     pub number: u16,
     pub size: usize,
 }
 
 // A content is legal, or not, or legal if this instance (class, number) is there.
-#[derive(Clone, Copy)]
+#[derive(Clone, Copy, Debug, PartialEq, Eq)]
 pub enum Verdict {
     Fine,
     Bad,
     Asks(u16, u16),
 }
 
-// Where something stands, if it is there.
-#[derive(Clone, Copy)]
-pub enum Found {
-    At(usize),
-    Nothing,
-}
-
-#[derive(Clone, Copy)]
+#[derive(Clone, Copy, Debug, PartialEq, Eq)]
 pub struct Instance {
     pub class: u16,
     pub number: u16,

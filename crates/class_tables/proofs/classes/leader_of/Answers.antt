@@ -1,0 +1,14 @@
+use mathlib.Core.Path.{◌≡◌, refl}
+use mathlib.Core.List.{[], ◌∷◌}
+use Rattle.rules.specs.Catalogue.{leader}
+use Rattle.class_tables.specs.Built.{cat_of}
+use Rattle.class_tables.specs.Computing.{computing_tables}
+use Rattle.class_tables.proofs.EveryProduct.{in_its_product}
+use Rattle.class_tables.proofs.ClassLaws.{leads_itself}
+use Rattle.class_tables.proofs.classes.leader_of.Goals as goal
+
+pub returns-in-46 : goal.returns-in-46
+returns-in-46 c = rw c.in-46.is (in_its_product (λ pr x. x ≡ leader (cat_of pr) 46) _ c.by.ensures (unfold computing_tables in (refl, refl, refl)))
+
+pub returns-in_default : goal.returns-in_default
+returns-in_default c = leads_itself _ _ (46 ∷ []) c.in_default.in_default-own.rest (unfold computing_tables in refl)
