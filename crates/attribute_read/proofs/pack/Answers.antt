@@ -3,7 +3,7 @@ use Rattle.attribute_read.proofs.Packed.{nothing_packed, length_packed, all_pack
 use Rattle.attribute_read.proofs.pack.Goals as goal
 
 pub loop-n-init : goal.loop-n-init
-loop-n-init c = nothing_packed _ cc c.requires
+loop-n-init c = nothing_packed _ (cc) c.requires
 
 pub item_for-x-requires : goal.item_for-x-requires
 item_for-x-requires c = (its_entry _ c.loop-n.invariant, next_there _ c.loop-n.invariant c.in-Some.ensures.steps)
