@@ -1,4 +1,4 @@
-use Rattle.std.proofs.Common.{arith, rules}
+use Rattle.std.proofs.Common.{arith}
 use Rattle.attribute_read.proofs.Packed.{nothing_packed, length_packed, all_packed, its_entry, next_there, next_fits, one_more}
 use Rattle.attribute_read.proofs.pack.Goals as goal
 
