@@ -18,7 +18,7 @@ use Rattle.message_frame.specs.declared.drops.DropReason.TheVariants as reason
 use Rattle.outcome.specs.Outcomes.{outcome_of, left_by, started_of}
 
 -- the reason that has a number; any for a number that none has
-reason_of : ℕ → DropReason
+abbrev pub reason_of : ℕ → DropReason
 reason_of n = cond (eqb n 1) reason.ShortReply
     (cond (eqb n 2) reason.UnsoundStore
     (cond (eqb n 3) reason.WrongLength
@@ -30,7 +30,6 @@ reason_of n = cond (eqb n 1) reason.ShortReply
     (cond (eqb n 12) reason.NotReported reason.BadContent))))))))
 
 reason_back : (d : DropReason) → d ≡ reason_of (drop_number d)
-unfolding reason_of
 reason_back reason.ShortReply = refl
 reason_back reason.UnsoundStore = refl
 reason_back reason.WrongLength = refl
