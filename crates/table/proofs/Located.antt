@@ -20,12 +20,6 @@ use Rattle.table.specs.Spots.{at_position, spot_among}
 use Rattle.store.proofs.Positions.{stands_at}
 use Rattle.class_tables.specs.declared.Product.{Product}
 
-pub there : (f : ℕ → ℕ) {j : ℕ} {found sought : Option ℕ} → found ≡ some j → found ≡ sought → some (f j) ≡ at_position f sought
-there f h e = ap (at_position f) (sym h ∙ e)
-
-pub nowhere : (f : ℕ → ℕ) {found sought : Option ℕ} → found ≡ none → found ≡ sought → none ≡ at_position f sought
-nowhere f h e = ap (at_position f) (sym h ∙ e)
-
 pub place_keys_length : (n : ℕ) (b : List ℕ) → length (place_keys n b) ≡ n
 unfolding place_keys
 place_keys_length zero b = refl

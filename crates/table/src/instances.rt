@@ -11,34 +11,28 @@ ghost use Rattle.table.specs.Places.{InShape, keys_in};
 ghost use Rattle.class_tables.specs.Finding.{found_of};
 ghost use Rattle.class_tables.specs.declared.Product.{Product};
 
-use class_tables::{Found, Product, classes, slots};
+use class_tables::{Product, classes, slots};
 use store::layout::{KEY, PLACE, PLACES, SLOT, SLOTS};
 
 // The contents of a class in the place of a created instance.
-fn in_place(b: &[u8], leader: u16, number: u16, inside: usize) -> Found
+fn in_place(b: &[u8], leader: u16, number: u16, inside: usize) -> Option<usize>
     requires { InShape b.now × (inside ≤ place_width) }
     ensures { found_of result ≡ at_position (λ j. place_at j + key_length + inside) (position (key leader number) (keys_in b.now)) }
 {
-    let found = super::place_of(b, octets::key_of(leader, number));
-    match found {
-        Found::At(j) => Found::At(PLACES + PLACE * j + KEY + inside),
-        Found::Nothing => Found::Nothing,
-    }
+    let j = super::place_of(b, octets::key_of(leader, number))?;
+    Some(PLACES + PLACE * j + KEY + inside)
 }
 
 // The contents of an instance that is there by itself, class 2 apart.
-fn in_slot(product: Product, class: u16, number: u16) -> Found
+fn in_slot(product: Product, class: u16, number: u16) -> Option<usize>
     ensures { found_of result ≡ at_position slot_at (position (key class number) (automatic_keys (cat_of product))) }
 {
-    let slot = slots::slot_of(product, class, number);
-    match slot {
-        Found::At(j) => Found::At(SLOTS + SLOT * j),
-        Found::Nothing => Found::Nothing,
-    }
+    let j = slots::slot_of(product, class, number)?;
+    Some(SLOTS + SLOT * j)
 }
 
 // Where the contents of an instance begin; class 2's in front.
-pub fn locate(b: &[u8], product: Product, class: u16, number: u16) -> Found
+pub fn locate(b: &[u8], product: Product, class: u16, number: u16) -> Option<usize>
     requires { InShape b.now }
     ensures { found_of result ≡ spot_among (cat_of product) (keys_in b.now) class number }
 {
@@ -47,7 +41,7 @@ pub fn locate(b: &[u8], product: Product, class: u16, number: u16) -> Found
         return in_place(b, leader, number, classes::inside(product, class));
     }
     if classes::is_ont_data(class, number) {
-        return Found::At(0);
+        return Some(0);
     }
     in_slot(product, class, number)
 }
@@ -57,9 +51,5 @@ pub fn is_there(b: &[u8], product: Product, class: u16, number: u16) -> bool
     requires { InShape b.now }
     ensures { result ≡ there_in (cat_of product) b.now class number }
 {
-    let found = locate(b, product, class, number);
-    match found {
-        Found::At(_) => true,
-        Found::Nothing => false,
-    }
+    locate(b, product, class, number).is_some()
 }

@@ -1,5 +1,7 @@
 // The table in its bytes: where an instance stands, and what is read and written there. A table's bytes, called a block, are
 // one byte in front, the number of places in use, the slots, and the places, those in use first (`store::layout`).
+#![tactic(auto)]
+
 pub mod counter;
 pub mod instances;
 
@@ -12,14 +14,22 @@ ghost use Rattle.table.specs.Spots.{rank, Ranked, inserted, removed};
 ghost use Rattle.table.specs.Places.{InShape, keys_in, how_many_hold, chosen};
 ghost use Rattle.class_tables.specs.Finding.{found_of};
 
-use class_tables::Found;
 use store::layout::{IN_USE, KEY, PLACE, PLACES};
 
 // The live table, or the frozen copy of an upload.
-#[derive(Clone, Copy)]
+#[derive(Clone, Copy, Debug, PartialEq, Eq)]
 pub enum Which {
     Live,
     Frozen,
+}
+
+// Attributes of an instance, those of a mask, to be read from the bytes of a table; its contents begin at `at`.
+#[derive(Clone, Copy, Debug, PartialEq, Eq)]
+pub struct Shown {
+    pub class: u16,
+    pub number: u16,
+    pub at: usize,
+    pub mask: u16,
 }
 
 // How many places of a block are in use.
@@ -72,15 +82,15 @@ pub fn has_key(b: &[u8], key: u32, j: usize) -> bool
 }
 
 // Which place has a key, if one has.
-pub fn place_of(b: &[u8], key: u32) -> Found
+pub fn place_of(b: &[u8], key: u32) -> Option<usize>
     requires { InShape b.now }
     ensures { found_of result ≡ position key (keys_in b.now) }
 {
     let j = rank_of(b, key);
     if has_key(b, key, j) {
-        return Found::At(j - 1);
+        return Some(j - 1);
     }
-    Found::Nothing
+    None
 }
 
 // How many places are of a class and hold a number in two bytes of their contents.
@@ -90,8 +100,7 @@ pub fn naming(b: &[u8], class: u16, at: usize, number: u16) -> usize
 {
     let n = in_use(b);
     let mut count: usize = 0;
-    let mut i = 0;
-    while i < n {
+    for i in 0..n {
         let p = PLACES + PLACE * i;
         // the number first: as a rule fewer places hold it than are of the class
         if octets::number_at(b, p + (KEY + at)) == number {
@@ -99,7 +108,6 @@ pub fn naming(b: &[u8], class: u16, at: usize, number: u16) -> usize
                 count += 1;
             }
         }
-        i += 1;
     }
     count
 }
