@@ -1,5 +1,5 @@
-// Where the content of a stored attribute begins in its instance's contents: what `attribute_of` says of it too, asked alone and
-// so without the rest of the line. What begins at 0 isn't listed.
+// Where the content of a stored attribute begins in its instance's contents: what `attribute_of` says of it too, asked alone, since to make the whole line
+// for one number takes 55 instructions more an attribute (docs/SPEED.md, "Looking things up"). What begins at 0 isn't listed.
 ghost use Rattle.std.specs.Prelude.{◌≡◌, true};
 ghost use Rattle.rules.specs.Catalogue.{attribute, supported, is_stored};
 ghost use Rattle.class_tables.specs.Built.{class_for};

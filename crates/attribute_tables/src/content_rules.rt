@@ -1,4 +1,5 @@
-// The rule of an attribute's contents, and what a pointer is judged by: asked alone, and so without the rest of the line.
+// The rule of an attribute's contents, and what a pointer is judged by: what `attribute_of` says of them too, asked alone, since to make the whole line for
+// one thing of it takes 55 instructions more an attribute (docs/SPEED.md, "Looking things up").
 // The product isn't asked: where a product has an attribute, its rule is the one that Large has.
 ghost use Rattle.std.specs.Prelude.{◌≡◌, true};
 ghost use Rattle.rules.specs.Catalogue.{supported};

@@ -14,14 +14,12 @@ fn fine_if(b: bool) -> Verdict
 pub fn judge(a: Attribute, value: u16, condition: u16) -> Verdict
     ensures { Judged a value condition result }
 {
-    let rule = a.rule;
-    let only_if = a.only_if;
-    match rule {
+    match a.rule {
         Rule::Any => Verdict::Fine,
         Rule::Range(low, high) => fine_if((low <= value) & (value <= high)),
         Rule::Listed(one, other) => fine_if((value == one) | (value == other)),
         Rule::Pointer(class) => {
-            if only_if.is_none() | (condition == 1) {
+            if a.only_if.is_none() | (condition == 1) {
                 Verdict::Asks(class, value)
             } else {
                 Verdict::Fine

@@ -1,4 +1,5 @@
-// How attributes are read: what `attribute_of` says of them too, asked alone and so without the rest of the line.
+// How attributes are read: what `attribute_of` says of them too, asked alone, since to make the whole line for one thing of it takes 55 instructions more
+// an attribute (docs/SPEED.md, "Looking things up").
 ghost use Rattle.std.specs.Prelude.{◌≡◌, true};
 ghost use Rattle.rules.specs.Catalogue.{attribute, supported};
 ghost use Rattle.class_tables.specs.Built.{class_for};

@@ -1,12 +1,13 @@
 -- A loop over the attributes that a mask names, one after another.
-use Rattle.std.proofs.Common.{◌≡◌, ℕ, ◌+◌, ◌≤◌, Bool, true, eqb, List, [], ◌∷◌, sym, ap, ◌∙◌, arith}
+use Rattle.std.proofs.Common.{◌≡◌, ◌≢◌, ℕ, ◌+◌, ◌≤◌, Bool, true, eqb, List, [], ◌∷◌, length, sym, ap, ◌∙◌, arith}
 use Rattle.rules.specs.Maps.{among, all}
 use Rattle.rules.specs.Masks.{named, total}
 use Rattle.rules.proofs.Laws.{or_right, among_here, all_among}
 use Rattle.bits.proofs.Masks.{named_none, named_within, within_among}
 
-pub none_left : {left : ℕ} → left ≡ 0 → named left ≡ []
-none_left e = ap named e ∙ named_none
+-- a mask that names some isn't 0
+pub not_none : (m : ℕ) {r : ℕ} → r ≡ length (named m) → r ≢ 0 → m ≢ 0
+not_none m e h z = h (e ∙ ap (λ (x : ℕ). length (named x)) z ∙ ap length named_none)
 
 -- of the attributes of m those of `left` are still to come; those before them take so many bytes
 pub record Walked (size : ℕ → ℕ) (m : ℕ) (left : List ℕ) (sum : ℕ) : Type 0 where

@@ -31,7 +31,7 @@ pub fn first_named(mask: u16) -> u16
     (mask.leading_zeros() + 1) as u16
 }
 
-// The attributes that a mask names, one after another, in order.
+// The attributes that a mask names, in order: leading zeros give the next one, ones how many remain.
 #[derive(Drop)]
 pub struct Attributes {
     left: u16,
@@ -52,7 +52,7 @@ impl Iterator for Attributes {
     ghost remaining = { item_count (λ s. named s.left) };
 
     fn next(&mut self) -> Option<u16> {
-        if self.left == 0 {
+        if how_many(self.left) == 0 {
             return None;
         }
         let n = first_named(self.left);

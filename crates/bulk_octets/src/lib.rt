@@ -12,7 +12,19 @@ const PIECE: usize = 256;
 pub fn alike(a: &[u8], b: &[u8]) -> bool
     ensures { result ≡ same a.now b.now }
 {
-    a == b
+    if a.len() != b.len() {
+        return false;
+    }
+    let (pieces, rest) = a.as_chunks::<PIECE>();
+    let (others, other_rest) = b.as_chunks::<PIECE>();
+    if !pieces
+        .iter()
+        .zip(others)
+        .all(|(x, y)| octets::same_bytes(x, y))
+    {
+        return false;
+    }
+    octets::same_bytes(rest, other_rest)
 }
 
 // Adds bytes to others, bit by bit: a sum of many is zero exactly if each of them is.

@@ -18,7 +18,7 @@ fn has_trailer(m: &[u8]) -> bool
     requires { 48 ≤ length m.now }
     ensures { result ≡ same (take 4 (drop 40 m.now)) trailer }
 {
-    // compared byte by byte: `m[40..44] == [0, 0, 0, 0x28]` calls std's comparison of slices, 18 instructions more for each command
+    // compared byte by byte: `m[40..44] == [0, 0, 0, 0x28]` calls std's comparison of slices, about 18 instructions more for each command
     (m[40] == 0) & (m[41] == 0) & (m[42] == 0) & (m[43] == 0x28)
 }
 

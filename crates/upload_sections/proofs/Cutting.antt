@@ -11,64 +11,67 @@ use lib.Dec.{leb}
 use Rattle.rules.specs.Masks.{named, mask, total}
 use Rattle.rules.specs.Walks.{sections_from}
 use Rattle.rules.proofs.Laws.{cases, leb_le, le-leb}
-use Rattle.bits.specs.Firsts.{First}
-use Rattle.bits.proofs.Masks.{Within, named_within, named_none, mask_named, named_mask, mask_append}
+use Rattle.bits.proofs.Masks.{Within, named_within, mask_named, mask_small, named_mask, mask_append}
+use Rattle.bits.proofs.MaskWalk.{Walked, nothing_walked, one_walked}
 use Rattle.upload_sections.specs.Cuts.{first_cut, rest_cut}
-
--- a mask that names some isn't 0
-pub not_none : (m : ℕ) {r : ℕ} → r ≡ length (named m) → r ≢ 0 → m ≢ 0
-not_none m e h z = h (e ∙ ap (λ (x : ℕ). length (named x)) z ∙ ap length named_none)
 
 module _ (size : ℕ → ℕ) where
   -- ---- the first section, attribute by attribute
 
-  -- those before `left` are in the section, and take so many bytes
-  pub record Cutting (m left used : ℕ) : Type 0 where
-    pub below : left ≤ m
-    pub so_far : m - left + mask (first_cut size used (named left)) ≡ mask (first_cut size 0 (named m))
+  -- `section` has those before `left`, which take so many bytes
+  pub record Cutting (m : ℕ) (left : List ℕ) (used section : ℕ) : Type 0 where
+    pub walked : Walked (λ n. 0) m left 0
+    pub so_far : section + mask (first_cut size used left) ≡ mask (first_cut size 0 (named m))
+    pub whole : section + mask left ≡ mask (named m)
     pub room : used ≤ 26
 
-  pub nothing_cut : (m : ℕ) → Cutting m m 0
-  nothing_cut m = record { below = omega arith; so_far = omega arith; room = omega arith }
+  pub nothing_cut : {m left : ℕ} → left ≡ m → Cutting m (named left) 0 0
+  nothing_cut e = record { walked = nothing_walked (λ n. 0) e; so_far = rw e (omega arith); whole = rw e (omega arith); room = omega arith }
 
-  module _ {m left used : ℕ} (s : Cutting m left used) where
-    -- the next attribute, of w bytes
-    pub one_more : {n w bit : ℕ} → First left n → bit ≡ 2 ^ (16 - n) → w ≡ size n → used + w ≤ 26 → Cutting m (left - bit) (used + w)
-    unfolding first_cut mask
-    one_more {n} {w} {bit} f b e h =
-        let others : named left ≡ n ∷ named (left - bit) = f.before_others ∙ ap (λ (x : ℕ). n ∷ named (left - x)) (sym b) in
-        let fits : leb (used + size n) 26 ≡ true = le-leb (used + size n) 26 (omega arith) in
-        let it : mask (first_cut size used (n ∷ named (left - bit))) ≡ 2 ^ (16 - n) + mask (first_cut size (used + size n) (named (left - bit))) = rw fits in
-        let t : mask (first_cut size used (named left)) ≡ 2 ^ (16 - n) + mask (first_cut size (used + w) (named (left - bit))) =
-        ap (λ (l : List ℕ). mask (first_cut size used l)) others ∙ rw e it in
-        let all = s.so_far in
-        let low = s.below in
-        let set_in = f.set_in in
-        record { below = omega arith; so_far = omega arith; room = h }
+  module _ {m used section : ℕ} {left : List ℕ} (s : Cutting m left used section) where
+    module _ {n : ℕ} {rest : List ℕ} (first : left ≡ n ∷ rest) where
+      -- there is room for its bit
+      pub bit_room : {bit : ℕ} → bit ≡ 2 ^ (16 - n) → section + bit < 65536
+      unfolding mask
+      bit_room b =
+          let h = ap mask first in
+          let w = s.whole in
+          let z = mask_small (named m) (named_within m) in
+          omega arith
 
-    -- it doesn't fit
-    pub full : {n w r : ℕ} → First left n → w ≡ size n → 26 < used + w → r ≡ m - left → r ≡ mask (first_cut size 0 (named m))
-    unfolding first_cut mask
-    full {n} {w} f e h q =
-        let more : leb (used + size n) 26 ≡ false = over (used + size n) (omega arith) in
-        let t : mask (first_cut size used (named left)) ≡ 0 = ap (λ (l : List ℕ). mask (first_cut size used l)) f.before_others ∙ rw more refl in
-        let all = s.so_far in
-        omega arith
-      where
-        over : (k : ℕ) → 26 < k → leb k 26 ≡ false
-        over k g = cases (leb k 26) (λ t. let z = leb_le k 26 t in absurd (omega arith)) (λ t. t)
+      module _ {w : ℕ} (e : w ≡ size n) where
+        -- the next attribute, of w bytes
+        pub one_more : {bit : ℕ} → bit ≡ 2 ^ (16 - n) → used + w ≤ 26 → Cutting m rest (used + w) (section + bit)
+        unfolding first_cut mask
+        one_more b h =
+            let fits : leb (used + size n) 26 ≡ true = le-leb (used + size n) 26 (omega arith) in
+            let it : mask (first_cut size used (n ∷ rest)) ≡ 2 ^ (16 - n) + mask (first_cut size (used + size n) rest) = rw fits in
+            let t : mask (first_cut size used left) ≡ 2 ^ (16 - n) + mask (first_cut size (used + w) rest) =
+            ap (λ (l : List ℕ). mask (first_cut size used l)) first ∙ rw e it in
+            let all = s.so_far in
+            let heavier = ap mask first in
+            let whole = s.whole in
+            record { walked = one_walked s.walked first refl; so_far = omega arith; whole = omega arith; room = h }
+
+        -- it doesn't fit
+        pub full : 26 < used + w → section ≡ mask (first_cut size 0 (named m))
+        unfolding first_cut mask
+        full h =
+            let more : leb (used + size n) 26 ≡ false = over (used + size n) (omega arith) in
+            let t : mask (first_cut size used left) ≡ 0 = ap (λ (l : List ℕ). mask (first_cut size used l)) first ∙ rw more refl in
+            let all = s.so_far in
+            omega arith
+          where
+            over : (k : ℕ) → 26 < k → leb k 26 ≡ false
+            over k g = cases (leb k 26) (λ t. let z = leb_le k 26 t in absurd (omega arith)) (λ t. t)
 
     -- none is left
-    pub used_up : {r : ℕ} → length (named left) ≡ 0 → r ≡ m - left → r ≡ mask (first_cut size 0 (named m))
+    pub used_up : left ≡ [] → section ≡ mask (first_cut size 0 (named m))
     unfolding first_cut mask
-    used_up {r} h q =
-        let t : mask (first_cut size used (named left)) ≡ 0 = none_left (named left) h in
+    used_up e =
+        let t : mask (first_cut size used left) ≡ 0 = ap (λ (l : List ℕ). mask (first_cut size used l)) e in
         let all = s.so_far in
         omega arith
-      where
-        none_left : (l : List ℕ) → length l ≡ 0 → mask (first_cut size used l) ≡ 0
-        none_left [] e = refl
-        none_left (x ∷ l) e = absurd (omega arith)
 
   -- ---- a section and what it leaves
 

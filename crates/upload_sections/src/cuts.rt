@@ -17,17 +17,16 @@ const ROOM: usize = 26;
 pub fn first_section(product: Product, class: u16, remaining: u16) -> u16
     ensures { result ≡ mask (first_cut (size_of (class_for product class)) 0 (named remaining)) }
 {
-    let mut left = remaining;
     let mut used = 0;
-    while bits::how_many(left) != 0 {
-        let n = bits::first_named(left);
+    let mut section = 0;
+    for n in bits::named(remaining) {
         used += bits::digit(sizes::sizes(product, class), n);
         if ROOM < used {
-            return remaining - left;
+            return section;
         }
-        left -= bits::bit_of(n);
+        section += bits::bit_of(n);
     }
-    remaining - left
+    section
 }
 
 // How many sections an instance of a class has.
@@ -48,10 +47,8 @@ pub fn section_mask(product: Product, class: u16, n: usize) -> u16
     ensures { result ≡ given (nth (sections_of (class_for product class)) n) 0 mask }
 {
     let mut left = masks::supported_mask(product, class);
-    let mut i = 0;
-    while i < n {
+    for _ in 0..n {
         left -= first_section(product, class, left);
-        i += 1;
     }
     first_section(product, class, left)
 }

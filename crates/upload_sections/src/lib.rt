@@ -1,3 +1,4 @@
+#![tactic(auto)]
 // The sections that a MIB upload shows: how the instances of a table are cut, how many sections there are, and which is the n-th.
 pub mod cuts;
 pub mod entries;

@@ -1,9 +1,9 @@
-use Rattle.std.proofs.Common.{arith, rules}
+use Rattle.std.proofs.Common.{arith}
 use Rattle.attribute_read.proofs.Packed.{nothing_packed, length_packed, all_packed, its_entry, next_there, next_fits, one_more}
 use Rattle.attribute_read.proofs.pack.Goals as goal
 
 pub loop-n-init : goal.loop-n-init
-loop-n-init c = nothing_packed _ cc c.requires
+loop-n-init c = nothing_packed _ (cc) c.requires
 
 pub item_for-x-requires : goal.item_for-x-requires
 item_for-x-requires c = (its_entry _ c.loop-n.invariant, next_there _ c.loop-n.invariant c.in-Some.ensures.steps)

@@ -1,4 +1,4 @@
-use Rattle.std.proofs.Common.{arith, rules}
+use Rattle.std.proofs.Common.{arith}
 use Rattle.attribute_write.proofs.Puts.{nothing_put, one_put, all_put}
 use Rattle.attribute_write.proofs.put_bytes.Goals as goal
 

@@ -1,5 +1,5 @@
-use Rattle.bits.proofs.MaskWalk.{none_left}
+use Rattle.bits.proofs.MaskWalk.{not_none}
 use Rattle.bits.proofs.AttributesIterator.next.Goals as goal
 
-pub returns-then-self-eq0-clause-steps : goal.returns-then-self-eq0-clause-steps
-returns-then-self-eq0-clause-steps c = (none_left c.if-self-eq0.true, none_left c.if-self-eq0.true)
+pub first_named-n-requires : goal.first_named-n-requires
+first_named-n-requires c = not_none _ c.how_many.ensures c.if-how_many-eq0.false
