@@ -2,7 +2,8 @@
 use Prim.Native.Nat.{ℕ, ◌+◌, ◌-◌, ◌^◌, ◌≤◌, ◌<◌}
 use native.Mathlib.Omega.{arith}
 use mathlib.Core.Path.{◌≡◌, refl, sym, ◌∙◌, ap, subst}
-use mathlib.Core.Bool.{Bool, true, false, ◌&&◌, ◌||◌}
+use mathlib.Core.Bool.{Bool, true, false, not, ◌&&◌, ◌||◌}
+use Rattle.std.specs.Prelude.{Option, Some, None, is_some}
 use mathlib.Core.Logic.{◌≢◌}
 use mathlib.Core.List.{List, [], ◌∷◌}
 use lib.ListN.{length}
@@ -69,10 +70,14 @@ fits_unjudged there k b at n v h = rw (unknown_attribute k n h) refl
 
 -- ---- by its rule
 
+turned_twice : (b : Bool) → b ≡ not (not b)
+turned_twice true = refl
+turned_twice false = refl
+
 -- what a pointer is judged by may be looked at
-pub looks_at : (pr : Product) (c n : ℕ) {rule : Rule} → rule ≡ (line_for pr c n).rule → {d by : ℕ} → rule ≡ Pointer d → by ≡ (line_for pr c n).only_if → by ≢ 0
-    → Looked (class_for pr c) by
-looks_at pr c n ruled {d} e its z = subst (Looked (class_for pr c)) (sym its) ((described_here pr c n).looks d (sym ruled ∙ e) (λ y. z (its ∙ y)))
+pub looks_at : (pr : Product) (c n : ℕ) {rule : Rule} → rule ≡ (line_for pr c n).rule → {d : ℕ} {by : Option ℕ} → rule ≡ Pointer d
+    → by ≡ (line_for pr c n).only_if → (i : ℕ) → by ≡ Some i → Looked (class_for pr c) i
+looks_at pr c n ruled {d} e its i z = (described_here pr c n).looks d i (sym ruled ∙ e) (sym its ∙ z)
 
 module _ (there : ℕ → ℕ → Bool) (pr : Product) (c n : ℕ) (b : List ℕ) (at : ℕ) (v : List ℕ) {value : ℕ} {rule : Rule}
     (sized : length v ≡ size_of (class_for pr c) n) (is : value ≡ value_of v) (ruled : rule ≡ (line_for pr c n).rule) where
@@ -112,13 +117,19 @@ module _ (there : ℕ → ℕ → Bool) (pr : Product) (c n : ℕ) (b : List ℕ
   pub fits_listed : (x y : ℕ) → rule ≡ Listed x y → (eqb value x || eqb value y) ≡ legal
   fits_listed x y e = fine_or_not (eqb value x || eqb value y) (judged_listed a value condition x y (sym ruled ∙ e) refl)
 
-  module _ (asked : ℕ) (e : rule ≡ Pointer asked) {m : Bool} {by : ℕ} (its : by ≡ a.only_if) (met : m ≡ is_met by others) where
-    tested : {t : Bool} → m ≡ t → (eqb a.only_if 0 || eqb condition 1) ≡ t
-    tested h = met_is others a.only_if (sym ruled ∙ e) ∙ ap (λ (i : ℕ). is_met i others) (sym its) ∙ sym met ∙ h
+  module _ (asked : ℕ) (e : rule ≡ Pointer asked) {m : Bool} {by : Option ℕ} (its : by ≡ a.only_if) (met : m ≡ is_met by others) where
+    abbrev always : Bool
+    always = not (is_some a.only_if)
+
+    tested : {t : Bool} → m ≡ t → (always || eqb condition 1) ≡ t
+    tested h = met_is others a.only_if (sym ruled ∙ e) ∙ ap (λ (o : Option ℕ). is_met o others) (sym its) ∙ sym met ∙ h
+
+    twice_not : is_some a.only_if ≡ not always
+    twice_not = turned_twice (is_some a.only_if)
 
     pub fits_pointer : m ≡ true → {t : Bool} → t ≡ there asked value → t ≡ legal
     unfolding passes
-    fits_pointer h f = f ∙ judged_so (judged_pointer a value condition asked (sym ruled ∙ e) (tested h))
+    fits_pointer h f = f ∙ judged_so (judged_pointer a value condition asked (sym ruled ∙ e) always twice_not (tested h))
 
     pub fits_unmet : m ≡ false → true ≡ legal
-    fits_unmet h = fine_or_not true (not_judged a value condition asked (sym ruled ∙ e) (tested h))
+    fits_unmet h = fine_or_not true (not_judged a value condition asked (sym ruled ∙ e) always twice_not (tested h))

@@ -2,7 +2,8 @@
 use Prim.Native.Nat.{ℕ, zero, suc, ◌+◌, ◌≤◌, ◌<◌}
 use native.Mathlib.Omega.{arith}
 use mathlib.Core.Path.{◌≡◌, refl, sym, ◌∙◌, ap}
-use mathlib.Core.Bool.{Bool, true, ◌||◌}
+use mathlib.Core.Bool.{Bool, true, not, ◌||◌}
+use Rattle.std.specs.Prelude.{Option, Some, None, is_some}
 use mathlib.Core.Logic.{◌≢◌}
 use mathlib.Core.List.{List}
 use lib.ListN.{length, get_or}
@@ -53,18 +54,10 @@ module _ (k : Class) (n : ℕ) (b : List ℕ) (at : ℕ) (s : Looked k n) (room 
 -- ---- what a pointer is judged by
 
 module _ (others : ℕ → List ℕ) where
-  pub looked_condition : (n : ℕ) {x c : ℕ} {rule : Rule} → rule ≡ Pointer c → n ≢ 0 → x ≡ number (others n) → x ≡ looked_at rule n others
-  looked_condition zero e z h = absurd (z refl)
-  looked_condition (suc n) e z h = rw e h
-
-  pub always_met : (n : ℕ) → n ≡ 0 → true ≡ is_met n others
-  always_met n e = rw e refl
-
-  pub met_by_1 : (n : ℕ) {x : ℕ} → n ≢ 0 → x ≡ number (others n) → eqb x 1 ≡ is_met n others
-  met_by_1 zero z h = absurd (z refl)
-  met_by_1 (suc n) z h = rw h refl
+  pub looked_condition : (o : Option ℕ) (n : ℕ) {x c : ℕ} {rule : Rule} → rule ≡ Pointer c → o ≡ Some n → x ≡ number (others n) → x ≡ looked_at rule o others
+  looked_condition o n e z h = rw (e, z) h
 
   -- as the judging by a line tests it
-  pub met_is : (n : ℕ) {c : ℕ} {rule : Rule} → rule ≡ Pointer c → (eqb n 0 || eqb (looked_at rule n others) 1) ≡ is_met n others
-  met_is zero e = refl
-  met_is (suc n) e = let z : suc n ≢ 0 = omega arith in rw (eqb_false (suc n) 0 z, e) refl
+  pub met_is : (o : Option ℕ) {c : ℕ} {rule : Rule} → rule ≡ Pointer c → (not (is_some o) || eqb (looked_at rule o others) 1) ≡ is_met o others
+  met_is None e = refl
+  met_is (Some n) e = rw e refl

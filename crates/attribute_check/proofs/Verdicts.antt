@@ -3,6 +3,7 @@ use Prim.Native.Nat.{ℕ, zero, suc, ◌≤◌, ◌<◌}
 use native.Mathlib.Omega.{arith}
 use mathlib.Core.Path.{◌≡◌, refl, sym, ◌∙◌, ap}
 use mathlib.Core.Bool.{Bool, true, false}
+use Rattle.std.specs.Prelude.{Option, Some, None}
 use mathlib.Core.Logic.{◌≢◌}
 use mathlib.Core.List.{List, [], ◌∷◌}
 use lib.ListN.{length, get_or}
@@ -59,15 +60,15 @@ unfolding is_in
 with_two_bytes cat live c i e h = e ∙ sym (rw (lt-ltb i 65536 h) (true_and (there_in cat live c i)))
 
 -- a rule looks at nothing but what its line says
-by_what_is_looked_at : (r : Rule) (n condition : ℕ) (v : List ℕ) (others : ℕ → List ℕ) {w : rules.Verdict} → condition ≡ looked_at r n others
-    → ((f : ℕ → List ℕ) → (n ≢ 0 → number (f n) ≡ condition) → w ≡ rule_of r n v f)
-    → w ≡ rule_of r n v others
+by_what_is_looked_at : (r : Rule) (o : Option ℕ) (condition : ℕ) (v : List ℕ) (others : ℕ → List ℕ) {w : rules.Verdict} → condition ≡ looked_at r o others
+    → ((f : ℕ → List ℕ) → ((n : ℕ) → o ≡ Some n → number (f n) ≡ condition) → w ≡ rule_of r o v f)
+    → w ≡ rule_of r o v others
 unfolding any from◌to◌ one_of number_from
-by_what_is_looked_at Any n condition v others e says = says (λ j. []) (λ h. sym e)
-by_what_is_looked_at (Range low high) n condition v others e says = says (λ j. []) (λ h. sym e)
-by_what_is_looked_at (Listed x y) n condition v others e says = says (λ j. []) (λ h. sym e)
-by_what_is_looked_at (Pointer c) zero condition v others e says = says others (λ h. absurd (h refl))
-by_what_is_looked_at (Pointer c) (suc n) condition v others e says = says others (λ h. sym e)
+by_what_is_looked_at Any o condition v others e says = says (λ j. []) (λ n h. sym e)
+by_what_is_looked_at (Range low high) o condition v others e says = says (λ j. []) (λ n h. sym e)
+by_what_is_looked_at (Listed x y) o condition v others e says = says (λ j. []) (λ n h. sym e)
+by_what_is_looked_at (Pointer c) None condition v others e says = says others (λ n h. cc)
+by_what_is_looked_at (Pointer c) (Some m) condition v others e says = says others (λ n h. cc)
 
 module _ (k : Class) (v : List ℕ) (others : ℕ → List ℕ) {a : Attribute} {value condition : ℕ} {r : Verdict}
     (can : Judgeable k a) (j : Judged a value condition r)

@@ -1,5 +1,5 @@
 -- Legal contents, told from the bytes of an instance whose contents begin at a place of b.
-use Rattle.std.specs.Prelude.{ℕ, zero, suc, ◌+◌, ◌<◌, ◌≡◌, Bool, true, not, cond, ◌≢◌, List, [], length, take, drop, eqb, ltb, leb}
+use Rattle.std.specs.Prelude.{ℕ, ◌+◌, ◌<◌, ◌≡◌, Bool, true, not, cond, Option, Some, None, List, [], length, take, drop, eqb, ltb, leb}
 use Rattle.rules.specs.Maps.{◌and◌, keys, keep}
 use Rattle.rules.specs.Bytes.{number}
 use Rattle.rules.specs.Catalogue.{Class, Catalogue, attribute, size_of, is_fixed}
@@ -38,18 +38,18 @@ bad_among there k b at l v = keys (keep (λ n w. not (legal_at there k b at n w)
 
 -- ---- what a line of the tables has a rule look at
 
--- the number in the attribute that a pointer is judged by; 0 stands for none
-abbrev pub looked_at : Rule → ℕ → (ℕ → List ℕ) → ℕ
+-- the number in the attribute that a pointer is judged by, or 0 where it is by none
+abbrev pub looked_at : Rule → Option ℕ → (ℕ → List ℕ) → ℕ
 looked_at Any n others = 0
 looked_at (Range low high) n others = 0
 looked_at (Listed a b) n others = 0
-looked_at (Pointer c) zero others = 0
-looked_at (Pointer c) (suc n) others = number (others (suc n))
+looked_at (Pointer c) None others = 0
+looked_at (Pointer c) (Some n) others = number (others n)
 
 -- is a pointer judged, by this attribute?
-abbrev pub is_met : ℕ → (ℕ → List ℕ) → Bool
-is_met zero others = true
-is_met (suc n) others = eqb (number (others (suc n))) 1
+abbrev pub is_met : Option ℕ → (ℕ → List ℕ) → Bool
+is_met None others = true
+is_met (Some n) others = eqb (number (others n)) 1
 
 -- is v legal for the attribute that a line describes, where these instances are there?
 unfoldable pub legal_by : (ℕ → ℕ → Bool) → Class → List ℕ → ℕ → Attribute → List ℕ → Bool
@@ -58,4 +58,4 @@ legal_by there k b at a v = passes there ((meaning a).rule v (fixed_at k b at))
 -- a line that can be judged: not by its rule if no u16 holds the content, and by no attribute that rules may not look at
 pub record Judgeable (k : Class) (a : Attribute) : Type 0 where
   pub wide : 2 < a.size → a.rule ≡ Any
-  pub looks : (c : ℕ) → a.rule ≡ Pointer c → a.only_if ≢ 0 → Looked k a.only_if
+  pub looks : (c n : ℕ) → a.rule ≡ Pointer c → a.only_if ≡ Some n → Looked k n

@@ -1,6 +1,6 @@
 #![tactic(auto)]
 // Is a content legal, and which of several aren't?
-ghost use Rattle.std.specs.Prelude.{◌≡◌, ◌≢◌, ◌+◌, ◌≤◌, length};
+ghost use Rattle.std.specs.Prelude.{◌≡◌, ◌+◌, ◌≤◌, ℕ, Some, length};
 ghost use Rattle.rules.specs.Bytes.{number};
 ghost use Rattle.rules.specs.Masks.{named, mask, total};
 ghost use Rattle.rules.specs.Catalogue.{size_of};
@@ -20,7 +20,7 @@ fn value_in(v: &[u8]) -> u16
     ensures { result ≡ value_of v.now }
 {
     if v.len() == 1 {
-        return octets::wide(v[0]);
+        return u16::from(v[0]);
     }
     if v.len() == 2 {
         return octets::number_at(v, 0);
@@ -33,7 +33,7 @@ fn looked(product: Product, class: u16, n: u16, own: &[u8], at: usize) -> u16
     requires { Looked (class_for product class) n × (at + contents_width (class_for product class) ≤ length own.now) }
     ensures { result ≡ number (fixed_at (class_for product class) own.now at n) }
 {
-    octets::wide(own[at + begins::begin_of(product, class, n)])
+    u16::from(own[at + begins::begin_of(product, class, n)])
 }
 
 // The number in the attribute of the same instance that a pointer is judged by; 0 if it is by none.
@@ -41,18 +41,9 @@ fn condition_of(a: Attribute, product: Product, class: u16, own: &[u8], at: usiz
     requires { Judgeable (class_for product class) a × (at + contents_width (class_for product class) ≤ length own.now) }
     ensures { result ≡ looked_at a.rule a.only_if (fixed_at (class_for product class) own.now at) }
 {
-    let rule = a.rule;
-    let only_if = a.only_if;
-    match rule {
-        Rule::Any => 0,
-        Rule::Range(_, _) => 0,
-        Rule::Listed(_, _) => 0,
-        Rule::Pointer(_) => {
-            if only_if == 0 {
-                return 0;
-            }
-            looked(product, class, only_if, own, at)
-        }
+    match (a.rule, a.only_if) {
+        (Rule::Pointer(_), Some(n)) => looked(product, class, n, own, at),
+        _ => 0,
     }
 }
 
@@ -79,15 +70,15 @@ pub fn is_legal(
     }
 }
 
-// Is a pointer of this instance judged? Always if `only_if` is 0, which stands for none; else only if that attribute's content is 1.
-fn condition_met(product: Product, class: u16, only_if: u16, own: &[u8], at: usize) -> bool
-    requires { (only_if ≢ 0 → Looked (class_for product class) only_if) × (at + contents_width (class_for product class) ≤ length own.now) }
+// Is a pointer of this instance judged? Always if `only_if` names no attribute; else only if that attribute's content is 1.
+fn condition_met(product: Product, class: u16, only_if: Option<u16>, own: &[u8], at: usize) -> bool
+    requires { ((n : ℕ) → only_if ≡ Some n → Looked (class_for product class) n) × (at + contents_width (class_for product class) ≤ length own.now) }
     ensures { result ≡ is_met only_if (fixed_at (class_for product class) own.now at) }
 {
-    if only_if == 0 {
-        return true;
+    match only_if {
+        Some(n) => looked(product, class, n, own, at) == 1,
+        None => true,
     }
-    looked(product, class, only_if, own, at) == 1
 }
 
 // Is `v` a legal content of attribute n of an instance whose contents begin at `at` in `own`? It asks the tables for the rule alone.

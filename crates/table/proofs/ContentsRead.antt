@@ -10,7 +10,7 @@ use lib.ListN.{length}
 use lib.Dec.{eqb}
 use Rattle.rules.specs.Maps.{◌and◌, is_some, find, among}
 use Rattle.rules.specs.Bytes.{fill}
-use Rattle.rules.specs.Catalogue.{created, automatic, Catalogue, class, known, size_of, stored_numbers, is_created, leader, family, key, ont_data}
+use Rattle.rules.specs.Catalogue.{Catalogue, class, known, size_of, stored_numbers, is_created, leader, family, key, ont_data}
 use Rattle.rules.specs.State.{Contents, Entry, Table, class_of, entries, entry, contents, content}
 use Rattle.rules.specs.Legal.{automatic_keys}
 use Rattle.rules.specs.Walks.{frozen}

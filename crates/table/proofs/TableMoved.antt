@@ -12,7 +12,6 @@ use Rattle.rules.specs.Maps.{Map, keys, put, remove, among, gather}
 use Rattle.rules.specs.Bytes.{fill, laid}
 use Rattle.rules.specs.Catalogue.{Catalogue}
 use Rattle.rules.specs.State.{Entry, Table}
-use Rattle.rules.specs.Legal.{automatic_keys}
 use Rattle.rules.specs.Commands.{with_created}
 use Rattle.rules.specs.WellFormed.{WellFormed}
 use Rattle.rules.proofs.Laws.{cases}

@@ -4,9 +4,6 @@ use Rattle.table.proofs.Ranks.{few_passed, none_passed, last_looked_at}
 use borrow.Author.Rules.{rules}
 use Rattle.table.proofs.has_key.Statement.{statement}
 use Rattle.table.proofs.has_key.Tie as tie
-use Rattle.table.proofs.has_key.Reads as reads
-use Rattle.table.proofs.has_key.Lts as lts
-use Rattle.octets.proofs.key_at.Reads as key_at_reads
 
 returns : tie.Need-returns-then-j-eq0
 returns c =

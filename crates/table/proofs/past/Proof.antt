@@ -3,9 +3,6 @@ use Rattle.table.proofs.Ranks.{few_passed, gone_past, stopped_short, at_the_end}
 use borrow.Author.Rules.{rules}
 use Rattle.table.proofs.past.Statement.{statement}
 use Rattle.table.proofs.past.Tie as tie
-use Rattle.table.proofs.past.Reads as reads
-use Rattle.table.proofs.past.Lts as lts
-use Rattle.octets.proofs.key_at.Reads as key_at_reads
 
 add_next : tie.Need-overflow_add-next
 add_next c =

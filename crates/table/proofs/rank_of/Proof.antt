@@ -3,10 +3,6 @@ use Rattle.table.proofs.Ranks.{few_passed}
 use borrow.Author.Rules.{rules}
 use Rattle.table.proofs.rank_of.Statement.{statement}
 use Rattle.table.proofs.rank_of.Tie as tie
-use Rattle.table.proofs.rank_of.Reads as reads
-use Rattle.table.proofs.rank_of.Lts as lts
-use Rattle.table.proofs.in_use.Reads as in_use_reads
-use Rattle.table.proofs.past.Reads as past_reads
 
 -- 32 places and 31 more are more than there are
 past_requires : tie.Need-past-to_32-requires

@@ -2,9 +2,6 @@ use Rattle.table.proofs.Counted.{put_in_front}
 use borrow.Author.Rules.{rules}
 use Rattle.table.proofs.counter.move_counter.Statement.{statement}
 use Rattle.table.proofs.counter.move_counter.Tie as tie
-use Rattle.table.proofs.counter.move_counter.Reads as reads
-use Rattle.table.proofs.counter.move_counter.Lts as lts
-use Rattle.bits.proofs.next_number.Reads as next_number_reads
 
 returns : tie.Need-returns
 returns c = put_in_front _ _ _ (search rules) c.next_number.ensures
