@@ -1,7 +1,8 @@
 // What a line of a bench script is made of: runs of bytes, words, numbers, and bytes in hex; and why a line can't be read.
 #![tactic(auto)]
 
-ghost use Rattle.std.specs.Prelude.{◌≡◌, ℕ, Bool, ◌+◌, ◌-◌, ◌^◌, ◌<◌, ◌≤◌, length, drop, IfOk, IfSome, slice_index};
+ghost use Rattle.std.specs.Prelude.{◌≡◌, ℕ, Bool, ◌+◌, ◌-◌, ◌^◌, ◌<◌, ◌≤◌, length, drop, IfOk, IfSome, Some, slice_index};
+ghost use Rattle.script_values.specs.Reasons.{reason};
 ghost use Rattle.script_values.specs.Runs.{Computes, Within, is_blank, is_gap, digit_in, run_end, next_word};
 ghost use Rattle.script_values.specs.Numbers.{digits_at, next_number, number_in, three_numbers};
 ghost use Rattle.script_values.specs.HexBytes.{Gives, hex_digit, hex_from};
@@ -34,6 +35,8 @@ pub enum Why {
 }
 
 impl fmt::Display for Why {
+    ghost output = { λ why. Some (reason why) };
+
     fn fmt<W: fmt::Write>(&self, f: &mut fmt::Formatter<W>) -> fmt::Result {
         f.write_str(match self {
             Why::UnknownWord => "no call begins with this word",
@@ -92,7 +95,7 @@ pub struct Rest<'a> {
 fn is_blank(c: u8) -> bool
     ensures { result ≡ is_blank c }
 {
-    (c == b' ') | ((c == b'\t') | (c == b'\r'))
+    matches!(c, b' ' | b'\t' | b'\r')
 }
 
 // Is it passed over between hex digits: a blank or an underscore?
@@ -100,7 +103,7 @@ fn is_blank(c: u8) -> bool
 fn is_gap(c: u8) -> bool
     ensures { result ≡ is_gap c }
 {
-    (c == b'_') | is_blank(c)
+    c == b'_' || is_blank(c)
 }
 
 // The digit of a base that a byte is.
@@ -168,7 +171,7 @@ fn number_in(word: &[u8], place: usize, limit: u16) -> Result<u16, Wrong>
 
 impl<'a> Rest<'a> {
     // The same text, read up to another place.
-    fn behind(self, at: usize) -> Rest<'a>
+    pub fn behind(self, at: usize) -> Rest<'a>
         ensures text { result.text ≡ self.entry.text }
         ensures at { result.at ≡ at }
     {
