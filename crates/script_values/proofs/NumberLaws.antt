@@ -3,29 +3,17 @@ use Prim.Native.Nat.{ℕ, ◌+◌, ◌*◌, ◌≤◌, ◌<◌}
 use native.Mathlib.Nat.{mul-le-mul_left}
 use native.Mathlib.Numerals.{add-one}
 use native.Mathlib.Omega.{arith}
-use mathlib.Core.Path.{◌≡◌, refl, ◌∙◌}
+use mathlib.Core.Path.{◌≡◌, refl}
 use mathlib.Core.Bool.{true, false}
 use mathlib.Core.List.{List, [], ◌∷◌}
-use lib.ListN.{length, take, drop, get_or, drop_of_length-le}
+use lib.ListN.{length, drop, get_or, drop_of_length-le}
 use lib.Seq.{drop-cons}
-use lib.Dec.{eqb}
 use borrow.Author.Tests.{lt-leb}
 use Rattle.std.specs.Prelude.{Some, None, Ok, Err}
-use Rattle.std.specs.Str.{bytes_eq}
-use Rattle.rules.specs.Maps.{◌and◌, same}
-use Rattle.rules.proofs.Laws.{cases, le-leb}
+use Rattle.rules.proofs.Laws.{le-leb}
 use Rattle.script_values.specs.declared.Why.TheVariants as why
 use Rattle.script_values.specs.Runs.{wrong_at, digit_in}
-use Rattle.script_values.specs.Texts.{spelt}
-use Rattle.script_values.specs.Numbers.{digits_from, digits_at, number_in}
-
--- the rules' comparison of bytes is the library's
-same_is_bytes_eq : (a b : List ℕ) → same a b ≡ bytes_eq a b
-unfolding same ◌and◌
-same_is_bytes_eq [] [] = refl
-same_is_bytes_eq [] (y ∷ b) = refl
-same_is_bytes_eq (x ∷ a) [] = refl
-same_is_bytes_eq (x ∷ a) (y ∷ b) = cases (eqb x y) (λ e. rw e (same_is_bytes_eq a b)) (λ e. rw e)
+use Rattle.script_values.specs.Numbers.{digits_from, digits_at, number_in, hex_marked}
 
 -- a number of 16 bits and a base have a product that is far from 32 bits
 pub product_fits : (value base : ℕ) → value < 65536 → base ≤ 16 → value * base < 1048576
@@ -64,12 +52,10 @@ module _ (base limit value place : ℕ) (s : List ℕ) (i : ℕ) where
 
 -- ---- a number in a word
 
-pub hex_number : (limit place : ℕ) (w : List ℕ) → bytes_eq (take 2 w) (48 ∷ 120 ∷ []) ≡ true
-    → digits_at 16 limit (place + 2) (drop 2 w) ≡ number_in limit place w
-unfolding number_in spelt
-hex_number limit place w e = rw (same_is_bytes_eq (take 2 w) (48 ∷ 120 ∷ []) ∙ e)
+pub hex_number : (limit place : ℕ) (w : List ℕ) → hex_marked w ≡ true → digits_at 16 limit (place + 2) (drop 2 w) ≡ number_in limit place w
+unfolding number_in
+hex_number limit place w e = rw e
 
-pub decimal_number : (limit place : ℕ) (w : List ℕ) → bytes_eq (take 2 w) (48 ∷ 120 ∷ []) ≡ false
-    → digits_at 10 limit place w ≡ number_in limit place w
-unfolding number_in spelt
-decimal_number limit place w e = rw (same_is_bytes_eq (take 2 w) (48 ∷ 120 ∷ []) ∙ e)
+pub decimal_number : (limit place : ℕ) (w : List ℕ) → hex_marked w ≡ false → digits_at 10 limit place w ≡ number_in limit place w
+unfolding number_in
+decimal_number limit place w e = rw e

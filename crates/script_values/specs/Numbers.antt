@@ -1,13 +1,12 @@
 -- Numbers, in decimal, or in hex behind `0x`.
-use Rattle.std.specs.Prelude.{ℕ, ◌+◌, ◌*◌, Bool, cond, List, [], ◌∷◌, take, drop, leb, Result, Ok, Err}
+use Rattle.std.specs.Prelude.{ℕ, ◌+◌, ◌*◌, Bool, cond, List, [], ◌∷◌, take, drop, leb, Result, Ok, Err, codes}
 use Rattle.std.specs.Option.{ok_or}
-use Rattle.rules.specs.Maps.{same}
+use Rattle.std.specs.Str.{bytes_eq}
 use Rattle.script_values.specs.declared.Why.TheVariants as why
 use Rattle.script_values.specs.declared.Wrong.{Wrong}
 use Rattle.script_values.specs.declared.Word.{Word}
 use Rattle.script_values.specs.declared.Number.{Number}
 use Rattle.script_values.specs.declared.Three.{Three}
-use Rattle.script_values.specs.Texts.{spelt}
 use Rattle.script_values.specs.Runs.{wrong_at, and_then, digit_in, part, next_word}
 
 -- digits one after another, behind those that gave a value: each must be a digit, and the value stay within the limit
@@ -24,7 +23,7 @@ digits_at base limit place (c ∷ l) = digits_from base limit 0 place (c ∷ l)
 
 -- does a word begin with 0x?
 abbrev pub hex_marked : List ℕ → Bool
-hex_marked w = same (take 2 w) (spelt "0x")
+hex_marked w = bytes_eq (take 2 w) (codes "0x")
 
 -- the number that a word at a place holds
 unfoldable pub number_in : ℕ → ℕ → List ℕ → Result ℕ Wrong
