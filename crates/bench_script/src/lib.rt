@@ -10,7 +10,8 @@ use script_values::{Rest, Three, Why, Word, Wrong, digit};
 // What a line asks for.
 #[derive(Clone, Copy, Debug, PartialEq, Eq)]
 pub enum Asked {
-    // 1 for the small product, 2 for the large one, 3 for the meter: a number, as the engine's entry takes it
+    // 1 for the small product, 2 for the large one, 3 for the meter: the number that the entry `power_on` takes,
+    // since this crate stands below `class_tables`, which has the products as an enum
     Power(u8),
     // so many bytes, the first ones of the lent buffer
     Message(usize),
@@ -58,6 +59,7 @@ fn if_last(asked: Asked, rest: Rest) -> Result<Asked, Wrong>
 }
 
 // The number of the product that a word names.
+// By `==`: a `match` on byte strings leaves a goal for each length and byte, and none of them closed.
 #[tactic(auto, unfolding(crate::specs::Lines::product_named))]
 fn product_named(word: &[u8]) -> Option<u8>
     ensures { result ≡ lines.product_named word.now }
@@ -86,6 +88,7 @@ fn power(rest: Rest) -> Result<Asked, Wrong>
 }
 
 // Does a word say that an alarm is on, or that it is off?
+// By `==`: a `match` on byte strings leaves a goal for each length and byte, and none of them closed.
 #[tactic(auto, unfolding(crate::specs::Lines::said_on))]
 fn said_on(word: &[u8]) -> Option<bool>
     ensures { result ≡ lines.said_on word.now }
@@ -155,6 +158,7 @@ fn message(rest: Rest, bytes: &mut [u8]) -> Result<Asked, Wrong>
 }
 
 // Which call a word stands for.
+// By `==`: a `match` on byte strings leaves a goal for each length and byte, and none of them closed.
 #[tactic(auto, unfolding(crate::specs::Lines::call_of))]
 fn call_of(word: &[u8]) -> Call
     ensures { result ≡ lines.call_of word.now }

@@ -1,6 +1,5 @@
 -- The digits of a number, one after another; and the number in a word.
 use Prim.Native.Nat.{ℕ, ◌+◌, ◌*◌, ◌≤◌, ◌<◌}
-use native.Mathlib.Nat.{mul-le-mul_left}
 use native.Mathlib.Numerals.{add-one}
 use native.Mathlib.Omega.{arith}
 use mathlib.Core.Path.{◌≡◌, refl}
@@ -14,10 +13,6 @@ use Rattle.rules.proofs.Laws.{le-leb}
 use Rattle.script_values.specs.declared.Why.TheVariants as why
 use Rattle.script_values.specs.Runs.{wrong_at, digit_in}
 use Rattle.script_values.specs.Numbers.{digits_from, digits_at, number_in, hex_marked}
-
--- a number of 16 bits and a base have a product that is far from 32 bits
-pub product_fits : (value base : ℕ) → value < 65536 → base ≤ 16 → value * base < 1048576
-product_fits value base h g = let z : value * base ≤ value * 16 = mul-le-mul_left value g in omega arith
 
 module _ (base limit place : ℕ) where
   pub no_digits : (s : List ℕ) → length s ≡ 0 → digits_at base limit place s ≡ Err (wrong_at place why.NotANumber)

@@ -4,11 +4,11 @@ use native.Mathlib.Numerals.{add-one}
 use native.Mathlib.Omega.{arith}
 use mathlib.Core.Path.{◌≡◌}
 use mathlib.Core.Bool.{Bool, true, false}
-use mathlib.Core.List.{List, [], ◌∷◌}
+use mathlib.Core.List.{List}
 use lib.ListN.{length, get_or, drop_of_length-le}
 use lib.Seq.{drop-cons}
 use Rattle.std.specs.Prelude.{Ok, Err}
-use Rattle.rules.proofs.Laws.{cases, lt-ltb, le-ltb}
+use Rattle.rules.proofs.Laws.{lt-ltb, le-ltb}
 use Rattle.script_values.specs.declared.Why.TheVariants as why
 use Rattle.script_values.specs.Runs.{wrong_at, is_blank, in_word, run_length, run_end, word_from, next_word}
 
@@ -24,11 +24,6 @@ module _ (p : ℕ → Bool) (s : List ℕ) (i : ℕ) where
   pub run_over : length s ≤ i → run_end p s i ≡ i
   unfolding run_length
   run_over h = rw (drop_of_length-le s h) (omega arith)
-
-run_fits : (p : ℕ → Bool) (l : List ℕ) → run_length p l ≤ length l
-unfolding run_length
-run_fits p [] = omega arith
-run_fits p (c ∷ l) = let z = run_fits p l in cases (p c) (λ t. rw t (omega arith)) (λ t. rw t (omega arith))
 
 -- ---- words
 

@@ -272,6 +272,7 @@ impl<'a> Rest<'a> {
     {
         let mut n = 0;
         let mut i = self.gaps_end();
+        // A turn reads two digits, each with the gaps behind it: a `for` over the bytes would keep the first one in a flag.
         while i < self.text.len() {
             let high = self.hex_digit(i)?;
             let j = self.behind(i + 1).gaps_end();
