@@ -59,19 +59,15 @@ fn if_last(asked: Asked, rest: Rest) -> Result<Asked, Wrong>
 }
 
 // The number of the product that a word names.
-// By `==`: a `match` on byte strings leaves a goal for each length and byte, and none of them closed.
 #[tactic(auto, unfolding(crate::specs::Lines::product_named))]
 fn product_named(word: &[u8]) -> Option<u8>
     ensures { result ≡ lines.product_named word.now }
 {
-    if word == b"small".as_slice() {
-        Some(1)
-    } else if word == b"large".as_slice() {
-        Some(2)
-    } else if word == b"meter".as_slice() {
-        Some(3)
-    } else {
-        None
+    match word {
+        b"small" => Some(1),
+        b"large" => Some(2),
+        b"meter" => Some(3),
+        _ => None,
     }
 }
 
@@ -88,17 +84,14 @@ fn power(rest: Rest) -> Result<Asked, Wrong>
 }
 
 // Does a word say that an alarm is on, or that it is off?
-// By `==`: a `match` on byte strings leaves a goal for each length and byte, and none of them closed.
 #[tactic(auto, unfolding(crate::specs::Lines::said_on))]
 fn said_on(word: &[u8]) -> Option<bool>
     ensures { result ≡ lines.said_on word.now }
 {
-    if word == b"on".as_slice() {
-        Some(true)
-    } else if word == b"off".as_slice() {
-        Some(false)
-    } else {
-        None
+    match word {
+        b"on" => Some(true),
+        b"off" => Some(false),
+        _ => None,
     }
 }
 
@@ -158,23 +151,17 @@ fn message(rest: Rest, bytes: &mut [u8]) -> Result<Asked, Wrong>
 }
 
 // Which call a word stands for.
-// By `==`: a `match` on byte strings leaves a goal for each length and byte, and none of them closed.
 #[tactic(auto, unfolding(crate::specs::Lines::call_of))]
 fn call_of(word: &[u8]) -> Call
     ensures { result ≡ lines.call_of word.now }
 {
-    if word == b"power".as_slice() {
-        Call::Power
-    } else if word == b"report".as_slice() {
-        Call::Report
-    } else if word == b"alarm".as_slice() {
-        Call::Alarm
-    } else if word == b"upload".as_slice() {
-        Call::Upload
-    } else if word == b"alarms".as_slice() {
-        Call::Alarms
-    } else {
-        Call::Other
+    match word {
+        b"power" => Call::Power,
+        b"report" => Call::Report,
+        b"alarm" => Call::Alarm,
+        b"upload" => Call::Upload,
+        b"alarms" => Call::Alarms,
+        _ => Call::Other,
     }
 }
 
