@@ -1,7 +1,7 @@
 // Why a line can't be read, in words.
 use super::printing::{put_head, say};
 use super::run::{Run, one_wrong};
-use script_values::Why;
+use script_values::{Why, Wrong};
 use text_buffer::text::{put, put_decimal};
 
 fn put_why(out: &mut [u8], at: usize, why: Why) -> usize {
@@ -20,14 +20,14 @@ fn put_why(out: &mut [u8], at: usize, why: Why) -> usize {
 }
 
 // Names a line that can't be read, with the column, counted from 1, of the first byte that can't be read.
-pub fn wrong_line(place: usize, why: Why, run: Run) -> Run {
+pub fn wrong_line(wrong: Wrong, run: Run) -> Run {
     let mut page = [0u8; 256];
     let out: &mut [u8] = &mut page;
     let head = put_head(out, 0, run.number);
     let word = put(out, head, b"can't be read, column ");
-    let told = put_decimal(out, word, std::num::wrapping_add_u64(place as u64, 1));
+    let told = put_decimal(out, word, std::num::wrapping_add_u64(wrong.place as u64, 1));
     let colon = put(out, told, b": ");
-    let reason = put_why(out, colon, why);
+    let reason = put_why(out, colon, wrong.why);
     let end = put(out, reason, b"\n");
     say(out, end, one_wrong(run))
 }

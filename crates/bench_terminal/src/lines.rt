@@ -12,7 +12,6 @@ use text_buffer::text::put;
 // What a line asks for.
 fn play_asked(asked: Asked, bytes: &[u8], desk: &mut [u8], run: Run) -> Run {
     match asked {
-        Asked::Nothing => run,
         Asked::Power(product) => calls::power(desk, product, run),
         Asked::Message(length) => calls::exchange(desk, part(bytes, 0, length), run),
         Asked::Report {
@@ -29,7 +28,6 @@ fn play_asked(asked: Asked, bytes: &[u8], desk: &mut [u8], run: Run) -> Run {
         } => calls::alarm(desk, class, number, alarm, on, run),
         Asked::Upload => walks::upload(desk, run),
         Asked::Alarms => walks::alarms(desk, run),
-        Asked::Wrong { place, why } => wrong_line(place, why, run),
     }
 }
 
@@ -40,8 +38,11 @@ fn play_line(line: &[u8], desk: &mut [u8], run: Run) -> Run {
     }
     let mut room = bytes_room();
     let bytes: &mut [u8] = &mut room;
-    let asked = bench_script::read_line(part(line, 0, run.length), bytes);
-    play_asked(asked, bytes, desk, run)
+    match bench_script::read_line(part(line, 0, run.length), bytes) {
+        Ok(None) => run,
+        Ok(Some(asked)) => play_asked(asked, bytes, desk, run),
+        Err(wrong) => wrong_line(wrong, run),
+    }
 }
 
 // The end of the line that goes on at a place: its line feed, or the chunk's end.
