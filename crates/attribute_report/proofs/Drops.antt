@@ -14,8 +14,6 @@ use Rattle.rules.specs.Legal.{fixed_contents, legal_content}
 use Rattle.rules.specs.Reports.{attribute_drops}
 use Rattle.rules.proofs.Laws.{cases, not-true, not-false, both, eqb_true, eqb_false, eqb_eq}
 use Rattle.class_tables.specs.declared.Attribute.{Attribute}
-use Rattle.class_tables.specs.declared.Rights.{Rights}
-use Rattle.class_tables.specs.declared.Rights.TheVariants.{R, W, C, Wc, L}
 use Rattle.class_tables.specs.Built.{cat_of, class_for}
 use Rattle.class_tables.specs.Meaning.{reports, meaning}
 use Rattle.class_tables.specs.Describes.{DescribedIn}
@@ -33,37 +31,28 @@ use Rattle.legality.proofs.Contents.{passes_anywhere}
 
 -- ---- where the instance is there, by the attribute's line
 
-reported_is_L : (r : Rights) → r ≡ L → reports r ≡ true
-reported_is_L r e = rw e refl
-
-other_not_reported : (r : Rights) → r ≢ L → reports r ≡ false
-other_not_reported R e = refl
-other_not_reported W e = refl
-other_not_reported C e = refl
-other_not_reported Wc e = refl
-other_not_reported L e = absurd (e refl)
-
 module _ (there : ℕ → ℕ → Bool) (k : Class) (b : List ℕ) (at : ℕ) (a : Attribute) (v : List ℕ) where
   abbrev first : Option ℕ
   first = first_that_applies (content_drops there k b at a v)
 
-  pub not_reported : a.rights ≢ L → some 12 ≡ first
-  unfolding content_drops meaning first_that_applies
-  not_reported other = rw (other_not_reported a.rights other) refl
+  module _ {rep : Bool} (e : rep ≡ reports a.rights) where
+    pub not_reported : rep ≡ false → some 12 ≡ first
+    unfolding content_drops meaning first_that_applies
+    not_reported t = rw (sym e ∙ t) refl
 
-  module _ (e : a.rights ≡ L) where
-    pub other_size : length v ≢ a.size → some 13 ≡ first
-    unfolding content_drops meaning first_that_applies ◌and◌
-    other_size h = rw (reported_is_L a.rights e, eqb_false (length v) a.size h) refl
-
-    module _ (h : length v ≡ a.size) {legal : Bool} (g : legal ≡ legal_by there k b at a v) where
-      pub not_legal : legal ≡ false → some 13 ≡ first
+    module _ (t : rep ≡ true) where
+      pub other_size : length v ≢ a.size → some 13 ≡ first
       unfolding content_drops meaning first_that_applies ◌and◌
-      not_legal z = rw (reported_is_L a.rights e, eqb_true (length v) a.size h, sym g ∙ z) refl
+      other_size h = rw (sym e ∙ t, eqb_false (length v) a.size h) refl
 
-      pub none_told : legal ≡ true → none ≡ first
-      unfolding content_drops meaning first_that_applies ◌and◌
-      none_told z = rw (reported_is_L a.rights e, eqb_true (length v) a.size h, sym g ∙ z) refl
+      module _ (h : length v ≡ a.size) {legal : Bool} (g : legal ≡ legal_by there k b at a v) where
+        pub not_legal : legal ≡ false → some 13 ≡ first
+        unfolding content_drops meaning first_that_applies ◌and◌
+        not_legal z = rw (sym e ∙ t, eqb_true (length v) a.size h, sym g ∙ z) refl
+
+        pub none_told : legal ≡ true → none ≡ first
+        unfolding content_drops meaning first_that_applies ◌and◌
+        none_told z = rw (sym e ∙ t, eqb_true (length v) a.size h, sym g ∙ z) refl
 
 -- ---- the same as the rules'
 

@@ -35,6 +35,7 @@ use Rattle.octets.proofs.Parted.{part}
 use Rattle.store.proofs.StateLaid.{live_length}
 use Rattle.table.proofs.WriteLaid.{write_laid}
 use Rattle.attribute_check.specs.Judges.{is_in}
+use Rattle.outcome.specs.declared.Outcome.{Outcome}
 use Rattle.outcome.specs.declared.Outcome.TheVariants.{Answered, Quiet}
 use Rattle.outcome.specs.Outcomes.{left_by, leaves}
 use Rattle.sound_store.specs.Held.{state_in, Sound, stored}
@@ -48,7 +49,9 @@ use Rattle.class_tables.specs.declared.Product.{Product}
 use Rattle.message_frame.specs.Drops.{drop_number}
 use Rattle.message_frame.specs.declared.drops.DropReason.{DropReason}
 use Rattle.message_frame.specs.declared.drops.DropReason.TheVariants.{NoSuchInstance}
-use Rattle.std.specs.Prelude.{Ok, Err}
+use Rattle.std.specs.Prelude.{Some, Result, Ok, Err, IsErrAnd}
+use Rattle.std.specs.Prelude as code
+use Rattle.class_tables.specs.Finding.{found_of}
 
 abbrev live_in : List ℕ → List ℕ
 live_in b = part live_at block_length b
@@ -71,6 +74,11 @@ pub record Taken (pr : Product) (b buffer : List ℕ) (c i n : ℕ) (v : List �
       → {reply : List ℕ} → reply ≡ notification avc_type c i (bytes 2 (mask (n ∷ [])) ++ v) ++ drop 48 buffer
       → left_by (Ok Answered) (put_mid live_at block_length b now) reply ≡ left pr b buffer c i n v
 
+-- the error that a `?` hands on is the one that it met
+pub handed_on : {T : Type 0} {d : DropReason} (r : Result T DropReason) → IsErrAnd r (λ e. e ≡ d) → r ≡ Err d
+handed_on (Ok x) h = absurd h
+handed_on (Err e) h = ap Err h
+
 module _ (pr : Product) (b buffer : List ℕ) (h : Sound pr b) (c i n : ℕ) (v : List ℕ) (lt : i < 65536) where
   abbrev s : State
   s = state_in pr b
@@ -84,17 +92,25 @@ module _ (pr : Product) (b buffer : List ℕ) (h : Sound pr b) (c i n : ℕ) (v 
   abbrev sought : Option ℕ
   sought = spot_among (cat_of pr) (keys_in live) c i
 
-  pub when_missing : sought ≡ none → left_by (Err NoSuchInstance) b buffer ≡ left pr b buffer c i n v
+  pub when_missing : sought ≡ none → {r : Result Outcome DropReason} → r ≡ Err NoSuchInstance → left_by r b buffer ≡ left pr b buffer c i n v
   unfolding report_attribute unless_dropped leave
-  when_missing e = rw (not_there pr live s (live_held pr b h) c i n v lt e) refl
+  when_missing e is = rw (is, not_there pr live s (live_held pr b h) c i n v lt e) refl
 
-  module _ {o : ℕ} (found : sought ≡ some o) {a : Attribute} (d : DescribedIn k n a) where
+  -- where it is, and its line, as the code has them
+  module _ {o m : ℕ} {a : Attribute} {place : code.Option ℕ} (located : found_of place ≡ sought) (there : place ≡ Some o) (read : m ≡ n) (line : DescribedIn k m a) where
+    found : sought ≡ some o
+    found = sym located ∙ ap found_of there
+
+    d : DescribedIn k n a
+    d = rw read at line
+
     abbrev first : Option ℕ
     first = first_that_applies (content_drops (is_in (cat_of pr) live) k live o a v)
 
-    pub when_dropped : {reason : DropReason} → some (drop_number reason) ≡ first → left_by (Err reason) b buffer ≡ left pr b buffer c i n v
+    pub when_dropped : {reason : DropReason} → some (drop_number reason) ≡ first → {r : Result Outcome DropReason} → r ≡ Err reason
+        → left_by r b buffer ≡ left pr b buffer c i n v
     unfolding report_attribute unless_dropped leave
-    when_dropped e = rw (rules_drop pr live s (live_held pr b h) c i n v lt found d e) refl
+    when_dropped e is = rw (is, rules_drop pr live s (live_held pr b h) c i n v lt found d e) refl
 
     module _ (e : none ≡ first) where
       ok : Accepted pr live s (live_held pr b h) c i n v lt

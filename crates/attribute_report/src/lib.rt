@@ -9,6 +9,7 @@ ghost use Rattle.rules.specs.Messages.{avc_type, notification};
 ghost use Rattle.rules.specs.Reports.{report_attribute};
 ghost use Rattle.store.specs.Layout.{contents_width};
 ghost use Rattle.class_tables.specs.Built.{cat_of, class_for};
+ghost use Rattle.class_tables.specs.Meaning.{reports};
 ghost use Rattle.message_frame.specs.Drops.{drop_of};
 ghost use Rattle.table.specs.Places.{InShape};
 ghost use Rattle.outcome.specs.Outcomes.{left_by, leaves};
@@ -25,6 +26,13 @@ use table::instances;
 // The type of the message that an attribute has a new value.
 const AVC: u8 = 0x11;
 
+// Is an attribute with these rights one that the equipment reports?
+fn is_reported(rights: Rights) -> bool
+    ensures { result ≡ reports rights }
+{
+    rights == Rights::L
+}
+
 // Whether a content can be reported for the attribute of this line, of an instance whose contents begin at `spot`.
 fn content_drop(
     live: &[u8],
@@ -38,7 +46,7 @@ fn content_drop(
     ensures { drop_of result ≡ first_that_applies
         (content_drops (is_in (cat_of product) live.now) (class_for product class) live.now spot a content.now) }
 {
-    if a.rights != Rights::L {
+    if !is_reported(a.rights) {
         return Err(DropReason::NotReported);
     }
     if content.len() != a.size {
