@@ -12,7 +12,7 @@ ghost use Rattle.bits.specs.Firsts.{First};
 pub fn next_number(x: u8) -> u8
     ensures { result ≡ next_number x }
 {
-    x.checked_add(1).unwrap_or(1)
+    x.wrapping_add(1).max(1)
 }
 
 // The mask of attribute n alone.

@@ -35,7 +35,7 @@ same_split n a b h k =
 abbrev pub pieces_alike : ℕ → ℕ → List ℕ → List ℕ → Bool
 pieces_alike n k a b = list_all (λ p. same p.0 p.1) (zip (first_chunks n k a) (first_chunks n k b))
 
-pub pieces_and_rest : (n k : ℕ) (a b : List ℕ) → length a ≡ length b → k * n ≤ length a
+pieces_and_rest : (n k : ℕ) (a b : List ℕ) → length a ≡ length b → k * n ≤ length a
     → (pieces_alike n k a b and same (drop (k * n) a) (drop (k * n) b)) ≡ same a b
 pieces_and_rest n zero a b l h = let z : 0 * n ≡ 0 = omega arith in rw z (true_and (same a b))
 pieces_and_rest n (suc k) a b l h =

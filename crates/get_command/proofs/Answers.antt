@@ -25,21 +25,23 @@ use Rattle.sound_store.proofs.LiveTable.{its_spot}
 use Rattle.attribute_read.specs.Values.{values_at, Packable}
 use Rattle.attribute_read.proofs.ValuesRead.{values_live}
 use Rattle.store.specs.Layout.{block_length, live_at}
-use Rattle.get_command.specs.declared.GetRefusal.{GetRefusal}
-use Rattle.get_command.specs.declared.GetRefusal.TheVariants.{Accepted}
-use Rattle.get_command.specs.Gets.{get_contents, answer_at}
+use Rattle.get_command.specs.Gets.{answer_at}
 use Rattle.get_command.proofs.Refused.{passed}
 
 -- ---- an instance whose contents begin at a place of a block
 
-module _ (pr : Product) (b : List ℕ) (c i at m : ℕ) {r : GetRefusal} (found : get_contents r ≡ first_that_applies (get_results true (class_for pr c) m)) where
-  pub as_told : {w : GetRefusal} → r ≡ w → given (get_contents w) (done ∷ bytes 2 m ++ values_at (cat_of pr) b c i at (named m)) (λ x. x) ≡ answer_at pr b c i at m
-  unfolding answer_at
-  as_told e = ap (λ (o : Option (List ℕ)). given o (done ∷ bytes 2 m ++ values_at (cat_of pr) b c i at (named m)) (λ x. x)) (ap get_contents (sym e) ∙ found)
+module _ (pr : Product) (b : List ℕ) (c i at m : ℕ) where
+  abbrev refusal : Option (List ℕ)
+  refusal = first_that_applies (get_results true (class_for pr c) m)
 
-  pub packable : r ≡ Accepted → InShape b → spot_among (cat_of pr) (keys_in b) c i ≡ some at → Packable pr Live b b c i at m 25
+  -- the refusal as the code found it
+  pub as_told : {o : Option (List ℕ)} → o ≡ refusal → given o (done ∷ bytes 2 m ++ values_at (cat_of pr) b c i at (named m)) (λ x. x) ≡ answer_at pr b c i at m
+  unfolding answer_at
+  as_told = ap (λ (o : Option (List ℕ)). given o (done ∷ bytes 2 m ++ values_at (cat_of pr) b c i at (named m)) (λ x. x))
+
+  pub packable : none ≡ refusal → InShape b → spot_among (cat_of pr) (keys_in b) c i ≡ some at → Packable pr Live b b c i at m 25
   packable e shape spot =
-      let p = passed (class_for pr c) m (sym found ∙ ap get_contents e) in
+      let p = passed (class_for pr c) m (sym e) in
       record { live_long = shape.long; frozen_long = shape.long; shaped = shape; at_its_spot = spot; all_there = p.all_there; room_for_all = p.room }
 
 -- ---- a sound store

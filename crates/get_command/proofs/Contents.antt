@@ -3,11 +3,11 @@ use Prim.Native.Nat.{ℕ, ◌≤◌}
 use native.Mathlib.Omega.{arith}
 use mathlib.Core.Path.{◌≡◌, ◌∙◌, ap}
 use mathlib.Core.List.{List, ◌∷◌, ◌++◌}
-use lib.ListN.{length, take, drop, set, replicate}
+use lib.ListN.{length, take, drop, replicate}
 use borrow.Rule.Slice.PartMut.{mid_of, put_mid}
 use Rattle.rules.specs.Bytes.{bytes, fill, laid}
 use Rattle.rules.specs.Masks.{named}
-use Rattle.rules.specs.Messages.{done, attribute_failed}
+use Rattle.rules.specs.Messages.{done}
 use Rattle.octets.proofs.Laid.{laid_in_part, laid_on_zeros}
 use Rattle.class_tables.specs.Built.{cat_of}
 use Rattle.table.specs.declared.Which.TheVariants.{Live}
@@ -16,20 +16,12 @@ use Rattle.attribute_read.proofs.Items.{within}
 use Rattle.attribute_read.proofs.Packed.{length_values}
 use Rattle.class_tables.specs.declared.Product.{Product}
 
-pub zeros_long : {z : List ℕ} → z ≡ replicate 32 0 → length z ≡ 32
-zeros_long e = ap length e
-
-pub mask_named : (z t : List ℕ) (m : ℕ) → z ≡ replicate 32 0 → t ≡ take 28 (set z 0 attribute_failed) ++ (bytes 2 m ++ drop 30 (set z 0 attribute_failed))
-    → t ≡ fill 32 (attribute_failed ∷ replicate 27 0 ++ bytes 2 m)
-unfolding bytes
-mask_named z t m e h = h ∙ ap (λ (x : List ℕ). take 28 (set x 0 attribute_failed) ++ (bytes 2 m ++ drop 30 (set x 0 attribute_failed))) e
-
 module _ (z t : List ℕ) (m : ℕ) (e : z ≡ replicate 32 0) (h : t ≡ take 1 z ++ (bytes 2 m ++ drop 3 z)) where
   after_mask : t ≡ (done ∷ bytes 2 m) ++ replicate 29 0
   unfolding bytes
   after_mask = h ∙ ap (λ (x : List ℕ). take 1 x ++ (bytes 2 m ++ drop 3 x)) e
 
-  pub mask_long : length t ≡ 32
+  mask_long : length t ≡ 32
   unfolding bytes
   mask_long = ap length after_mask
 

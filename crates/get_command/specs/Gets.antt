@@ -1,22 +1,21 @@
 -- A Get of an instance that is there: what refuses it, and what it answers, over the bytes of a live table.
-use Rattle.std.specs.Prelude.{ℕ, true, List, [], ◌∷◌, ◌++◌, replicate}
+use Rattle.std.specs.Prelude.{ℕ, true, List, ◌∷◌, ◌++◌, Result, Ok, Err}
 use Rattle.std.proofs.Math.Option.{Option, none, some}
 use Rattle.rules.specs.Maps.{given, first_that_applies}
 use Rattle.rules.specs.Bytes.{bytes}
 use Rattle.rules.specs.Masks.{named}
-use Rattle.rules.specs.Messages.{done, attribute_failed}
+use Rattle.rules.specs.Messages.{done}
 use Rattle.rules.specs.Commands.{get_results}
 use Rattle.class_tables.specs.Built.{cat_of, class_for}
 use Rattle.class_tables.specs.declared.Product.{Product}
 use Rattle.attribute_read.specs.Values.{values_at}
-use Rattle.get_command.specs.declared.GetRefusal.{GetRefusal}
-use Rattle.get_command.specs.declared.GetRefusal.TheVariants.{Accepted, Result, Unsupported}
+use Rattle.outcome.specs.declared.refusals.Refusal.{Refusal}
+use Rattle.outcome.specs.Refusals.{refused}
 
--- the reply contents that the code's answer about a refusal stands for
-abbrev pub get_contents : GetRefusal → Option (List ℕ)
-get_contents Accepted = none
-get_contents (Result r) = some (r ∷ [])
-get_contents (Unsupported m) = some (attribute_failed ∷ replicate 27 0 ++ bytes 2 m)
+-- the reply contents that the code's answer about a refusal stands for, or none
+abbrev pub get_contents : Result (Unit {0}) Refusal → Option (List ℕ)
+get_contents (Ok u) = none
+get_contents (Err r) = some (refused r)
 
 -- what answers a Get with mask m of instance i of class c whose contents begin at a place of b
 unfoldable pub answer_at : Product → List ℕ → ℕ → ℕ → ℕ → ℕ → List ℕ

@@ -32,7 +32,7 @@ pub fn recall(memory: &[u8], buffer: &mut [u8])
 }
 
 // Remembers a message and the reply in a buffer's first 48 bytes. Both are gathered in an array first: copied straight from one lent slice into another
-// they took 88 loads and stores, the likely reason being that the two may overlap for all that the compiler knows.
+// they took 57 instructions, not 47, and four times the code, the likely reason being that the two may overlap for all that the compiler knows.
 pub fn remember(memory: &mut [u8], m: &[u8], buffer: &[u8])
     requires { (length memory.old ≡ 1 + memory_length) × (command_length ≤ length m.now) × (reply_length ≤ length buffer.now) }
     ensures { memory.new ≡ 1 ∷ take command_length m.now ++ take reply_length buffer.now }

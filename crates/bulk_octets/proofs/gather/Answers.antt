@@ -1,4 +1,4 @@
-use Rattle.std.proofs.Common.{rules, arith, refl, length-set}
+use Rattle.std.proofs.Common.{rules, length-set}
 use Rattle.bulk_octets.proofs.Gathering.{gather_again, gather_end}
 use Rattle.bulk_octets.proofs.gather.Goals as goal
 

@@ -1,6 +1,5 @@
-use Rattle.std.proofs.Common.{◌≡◌, refl, ap, sym, ◌∙◌, rules}
-use Rattle.std.specs.Int.{w16, to_be_bytes}
-use Rattle.rules.specs.Bytes.{bytes, laid}
+use Rattle.std.proofs.Common.{ap, sym, ◌∙◌, rules}
+use Rattle.rules.specs.Bytes.{laid}
 use Rattle.octets.proofs.Laid.{laid_part, laid_number}
 use Rattle.octets.proofs.Writes.{two_bytes}
 use Rattle.octets.proofs.put_number.Goals as goal

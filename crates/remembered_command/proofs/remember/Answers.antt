@@ -1,7 +1,6 @@
-use Rattle.std.proofs.Common.{◌≡◌, ◌+◌, length, take, replicate, arith, refl, ap, ◌∙◌, length-take-le}
-use Rattle.store.specs.Layout.{command_length, memory_length}
+use Rattle.std.proofs.Common.{◌+◌, length, take, replicate, arith, refl, ap, ◌∙◌, length-take-le}
+use Rattle.store.specs.Layout.{memory_length}
 use Rattle.octets.proofs.Laid.{length_laid}
-use Rattle.remembered_command.specs.Remembering.{command_at}
 use Rattle.remembered_command.proofs.Stored.{both_gathered}
 use Rattle.remembered_command.proofs.remember.Goals as goal
 
