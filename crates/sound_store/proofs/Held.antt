@@ -118,6 +118,10 @@ module _ (pr : Product) (b : List ℕ) (h : Sound pr b) where
 pub only_says : (pr : Product) (b : List ℕ) → Sound pr b → (a : Answer) (out : List ℕ) → a.0 ≡ state_in pr b → out ≡ fill 32 a.1 → Leaves pr a b b out
 only_says pr b h a out e f = record { store = as_stored pr b h ∙ ap (λ s. stored pr s b) (sym e); reply = f }
 
+-- a refusal changes nothing, and its bytes are the reply's first
+pub told : (pr : Product) (b : List ℕ) → Sound pr b → (r : List ℕ) → Leaves pr (state_in pr b, r) b b (fill 32 r)
+told pr b h r = only_says pr b h (state_in pr b, r) (fill 32 r) refl refl
+
 -- contents that were all zero, with a result in front
 pub result_alone : (out : List ℕ) (r : ℕ) → out ≡ replicate 32 0 → set out 0 r ≡ fill 32 (r ∷ [])
 result_alone out r e = ap (λ (x : List ℕ). set x 0 r) e
