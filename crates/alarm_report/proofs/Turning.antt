@@ -1,20 +1,20 @@
 -- One turn of an alarm: in its byte, in the store, and the notification.
 use Prim.Native.Nat.{ℕ, ◌<◌, ◌≤◌}
 use native.Mathlib.Omega.{arith}
-use mathlib.Core.Path.{◌≡◌, refl, sym, ◌∙◌, ap}
-use mathlib.Core.Bool.{Bool, true, false, not, ◌&&◌, ◌||◌}
+use mathlib.Core.Path.{◌≡◌, refl, ◌∙◌, ap}
+use mathlib.Core.Bool.{Bool, true, false, not, beq}
 use mathlib.Core.List.{List, [], ◌∷◌, ◌++◌}
 use lib.ListN.{length, take, drop, get_or, set, length-drop}
 use Rattle.rules.specs.Maps.{◌and◌, ◌or◌, given}
 use Rattle.rules.specs.Bytes.{byte, bytes, bits, bits_from, laid}
 use Rattle.rules.specs.Messages.{framed, notification, next_number}
 use Rattle.rules.specs.Reports.{quiet, answered}
-use Rattle.alarm_report.specs.Turned.{notice, turned_byte, as_it_is, turned_at, turning, turn_of, alarm_bytes, with_byte}
+use Rattle.alarm_report.specs.Turned.{notice, turned_byte, as_it_is, turned_at, turning, alarm_bytes, with_byte}
 use Rattle.store.specs.Layout.{slot_count, alarm_number_at, alarms_at}
 use Rattle.rules.specs.Run.{store_length}
 use mathlib.Core.Option.{none, some}
-use Rattle.alarm_report.specs.declared.Change.{Change}
-use Rattle.alarm_report.specs.declared.Change.TheVariants.{To, Already}
+use Rattle.class_tables.specs.Finding.{found_of}
+use Rattle.std.specs.Prelude.{Option, Some, None}
 use Rattle.octets.proofs.Laid.{laid_part, getD_laid_before, length_laid}
 use lib.Seq.{length-take-le}
 use borrow.Rule.Slice.PartMut.{put_mid, put_same}
@@ -36,31 +36,35 @@ module _ (c i : ℕ) where
 
 -- ---- the byte
 
+-- are two tests alike? As the code asks it, and as the rules do
+alike : (a b : Bool) → ((a and b) or not (a or b)) ≡ beq a b
+unfolding ◌and◌ ◌or◌
+alike true true = refl
+alike true false = refl
+alike false true = refl
+alike false false = refl
+
 module _ (x n : ℕ) (on is_on : Bool) (e : is_on ≡ get_or (bits 8 x) n false) where
-  test_is : (b : Bool) → ((is_on && on) || not (is_on || on)) ≡ b → as_it_is x n on ≡ b
-  unfolding as_it_is ◌and◌ ◌or◌
-  test_is b h = sym (ap (λ (o : Bool). (o && on) || not (o || on)) e) ∙ h
+  pub turned_not : beq is_on on ≡ true → none ≡ turning x n on
+  unfolding turning as_it_is
+  turned_not same = rw (← e, alike is_on on, same)
 
-  pub turned_not : ((is_on && on) || not (is_on || on)) ≡ true → none ≡ turning x n on
-  unfolding turning
-  turned_not h = rw (test_is true h)
-
-  pub turned_to : ((is_on && on) || not (is_on || on)) ≡ false → (y : ℕ) → y ≡ bits_from 0 (set (bits 8 x) n on) → some y ≡ turning x n on
-  unfolding turning turned_byte
-  turned_to h y is = rw (test_is false h, ← is)
+  pub turned_to : beq is_on on ≡ false → (y : ℕ) → y ≡ bits_from 0 (set (bits 8 x) n on) → some y ≡ turning x n on
+  unfolding turning as_it_is turned_byte
+  turned_to other y is = rw (← e, alike is_on on, other, ← is)
 
 -- ---- in a store and a reply buffer
 
-module _ (j c i n : ℕ) (on : Bool) (store buffer : List ℕ) (r : Change) (told : turn_of r ≡ turning (byte (alarm_bytes store) j) n on)
-    (alarms : List ℕ) (are : alarms ≡ given (turn_of r) (alarm_bytes store) (λ y. laid j (y ∷ []) (alarm_bytes store))) where
-  pub left_quiet : r ≡ Already → record { outcome = quiet; store = put_mid alarms_at slot_count store alarms; buffer = buffer } ≡ turned_at j c i n on store buffer
+module _ (j c i n : ℕ) (on : Bool) (store buffer : List ℕ) (r : Option ℕ) (told : found_of r ≡ turning (byte (alarm_bytes store) j) n on)
+    (alarms : List ℕ) (are : alarms ≡ given (found_of r) (alarm_bytes store) (λ y. laid j (y ∷ []) (alarm_bytes store))) where
+  pub left_quiet : r ≡ None → record { outcome = quiet; store = put_mid alarms_at slot_count store alarms; buffer = buffer } ≡ turned_at j c i n on store buffer
   unfolding turned_at
   left_quiet q =
       let same : alarms ≡ alarm_bytes store = rw q at are in
       rw (← told, q, same, put_same alarms_at slot_count store)
 
   -- the alarms come before the alarm number
-  module _ (long : store_length ≤ length store) (in_slots : j < slot_count) (y : ℕ) (q : r ≡ To y) where
+  module _ (long : store_length ≤ length store) (in_slots : j < slot_count) (y : ℕ) (q : r ≡ Some y) where
     turned : alarms ≡ laid j (y ∷ []) (alarm_bytes store)
     turned = rw q at are
 

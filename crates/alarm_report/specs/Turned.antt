@@ -7,8 +7,6 @@ use Rattle.rules.specs.Messages.{next_number, notification, alarm_type}
 use Rattle.rules.specs.Reports.{quiet, answered}
 use Rattle.store.specs.Entries.{Left}
 use Rattle.store.specs.Layout.{slot_count, alarms_at, alarm_number_at}
-use Rattle.alarm_report.specs.declared.Change.{Change}
-use Rattle.alarm_report.specs.declared.Change.TheVariants.{To, Already}
 
 -- the notification of one byte of alarms, with an alarm number
 unfoldable pub notice : ℕ → ℕ → ℕ → ℕ → List ℕ
@@ -25,11 +23,6 @@ as_it_is x n on = let is_on : Bool = get_or (bits 8 x) n false in (is_on and on)
 -- what the byte becomes, unless the alarm is already as it is to be
 unfoldable pub turning : ℕ → ℕ → Bool → Option ℕ
 turning x n on = cond (as_it_is x n on) none (some (turned_byte x n on))
-
--- the same, as the code told it
-abbrev pub turn_of : Change → Option ℕ
-turn_of (To y) = some y
-turn_of Already = none
 
 -- the bytes of alarms in a store
 abbrev pub alarm_bytes : List ℕ → List ℕ

@@ -1,5 +1,7 @@
 // The report that an alarm is raised or cleared: the alarm's bit in the store, and the notification.
-ghost use Rattle.std.specs.Prelude.{◌≡◌, [], ◌∷◌, ◌++◌, ◌<◌, ◌≤◌, length, drop};
+#![tactic(auto)]
+
+ghost use Rattle.std.specs.Prelude.{◌≡◌, [], ◌∷◌, ◌++◌, ◌<◌, ◌≤◌, length, drop, Ok};
 ghost use Rattle.rules.specs.Maps.{given};
 ghost use Rattle.rules.specs.Bytes.{byte, laid};
 ghost use Rattle.rules.specs.Messages.{next_number};
@@ -7,20 +9,17 @@ ghost use Rattle.rules.specs.Reports.{report_alarm};
 ghost use Rattle.rules.specs.Run.{store_length};
 ghost use Rattle.store.specs.Layout.{slot_count, alarm_number_at};
 ghost use Rattle.class_tables.specs.Built.{cat_of};
+ghost use Rattle.class_tables.specs.Finding.{found_of};
 ghost use Rattle.sound_store.specs.Held.{state_in, Sound};
 ghost use Rattle.outcome.specs.Outcomes.{left_by, leaves};
-ghost use Rattle.alarm_report.specs.Turned.{notice, turning, turn_of, turned_at};
+ghost use Rattle.alarm_report.specs.Turned.{notice, turning, turned_at};
 ghost use Rattle.class_tables.specs.declared.Product.{Product};
 
-use class_tables::{Found, Product, classes, slots};
+use class_tables::{Product, classes, slots};
+use message_frame::drops::DropReason;
 use outcome::Outcome;
 use store::layout::{ALARM_NUMBER, ALARMS_AT, ALARMS_END, LIVE_AT, LIVE_END};
 use table::instances;
-
-// The drops of a report: of an instance that isn't there, and of an alarm that its class doesn't declare.
-const NOT_THERE: u8 = 11;
-
-const NOT_DECLARED: u8 = 12;
 
 // The type of an alarm's notification.
 const ALARM: u8 = 0x10;
@@ -30,28 +29,19 @@ const BITMAP: usize = 8;
 
 const SEQUENCE: usize = 39;
 
-#[derive(Clone, Copy)]
-pub enum Change {
-    // the byte of alarms as it is now
-    To(u8),
-    // the alarm was so already
-    Already,
-}
-
-// Turns an alarm on or off in a slot's byte.
-fn turn(alarms: &mut [u8], slot: usize, alarm: u8, on: bool) -> Change
+// Turns an alarm on or off in a slot's byte, and answers that byte as it is now. Nothing if the alarm was so already.
+fn turn(alarms: &mut [u8], slot: usize, alarm: u8, on: bool) -> Option<u8>
     requires { (slot < length alarms.old) × (alarm < 8) }
-    ensures { (turn_of result ≡ turning (byte alarms.old slot) alarm on)
-        × (alarms.new ≡ given (turn_of result) alarms.old (λ y. laid slot (y ∷ []) alarms.old)) }
+    ensures { (found_of result ≡ turning (byte alarms.old slot) alarm on)
+        × (alarms.new ≡ given (found_of result) alarms.old (λ y. laid slot (y ∷ []) alarms.old)) }
 {
     let was = alarms[slot];
-    let is_on = bits::alarm_on(was, alarm);
-    if (is_on & on) | !(is_on | on) {
-        return Change::Already;
+    if bits::alarm_on(was, alarm) == on {
+        return None;
     }
     let is = bits::alarm_turned(was, alarm, on);
     alarms[slot] = is;
-    Change::To(is)
+    Some(is)
 }
 
 // Moves the alarm number on, and writes the notification of an instance's alarms into a buffer's first 48 bytes: it has the new number.
@@ -78,15 +68,14 @@ fn turn_in(
     reply: &mut [u8],
 ) -> Outcome
     requires { (store_length ≤ length store.old) × (slot < slot_count) × (alarm < 8) × (48 ≤ length reply.old) }
-    ensures { left_by result store.new reply.new ≡ turned_at slot class number alarm on store.old reply.old }
+    ensures { left_by (Ok result) store.new reply.new ≡ turned_at slot class number alarm on store.old reply.old }
 {
-    let turned = turn(&mut store[ALARMS_AT..ALARMS_END], slot, alarm, on);
-    match turned {
-        Change::To(alarms) => {
+    match turn(&mut store[ALARMS_AT..ALARMS_END], slot, alarm, on) {
+        Some(alarms) => {
             notify(store, class, number, alarms, reply);
             Outcome::Answered
         }
-        Change::Already => Outcome::Quiet,
+        None => Outcome::Quiet,
     }
 }
 
@@ -99,26 +88,20 @@ pub fn report_alarm(
     alarm: u8,
     on: bool,
     reply: &mut [u8],
-) -> Outcome
+) -> Result<Outcome, DropReason>
     requires { Sound product store.old × (48 ≤ length reply.old) }
     ensures { left_by result store.new reply.new
         ≡ leaves product (state_in product store.old) store.old reply.old
         (report_alarm (cat_of product) (state_in product store.old) class number alarm on) }
 {
-    let slot = slots::slot_of(product, class, number);
-    match slot {
-        Found::At(j) => {
-            if !classes::alarm_declared(product, class, alarm) {
-                return Outcome::Dropped(NOT_DECLARED);
-            }
-            turn_in(store, j, class, number, alarm, on, reply)
+    let Some(slot) = slots::slot_of(product, class, number) else {
+        if instances::is_there(&store[LIVE_AT..LIVE_END], product, class, number) {
+            return Err(DropReason::NotReported);
         }
-        Found::Nothing => {
-            if instances::is_there(&store[LIVE_AT..LIVE_END], product, class, number) {
-                Outcome::Dropped(NOT_DECLARED)
-            } else {
-                Outcome::Dropped(NOT_THERE)
-            }
-        }
+        return Err(DropReason::NoSuchInstance);
+    };
+    if !classes::alarm_declared(product, class, alarm) {
+        return Err(DropReason::NotReported);
     }
+    Ok(turn_in(store, slot, class, number, alarm, on, reply))
 }

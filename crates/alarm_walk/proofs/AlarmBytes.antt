@@ -1,19 +1,19 @@
 -- Alarms read from bytes, a byte to each key: how many bitmaps there are, and the n-th of them.
 use Prim.Native.Nat.{ℕ, zero, suc, ◌+◌, ◌-◌, ◌≤◌, ◌<◌}
 use native.Mathlib.Omega.{arith}
-use mathlib.Core.Path.{◌≡◌, refl, sym, ◌∙◌, ap}
-use mathlib.Core.Bool.{true, false, not}
+use mathlib.Core.Path.{◌≡◌, refl, ◌∙◌, ap}
+use mathlib.Core.Bool.{Bool, true, false, not}
 use mathlib.Core.Option.{none, some}
 use mathlib.Core.Logic.{◌≢◌}
 use mathlib.Core.List.{List, [], ◌∷◌}
-use lib.ListN.{length, drop, get_or, drop_of_length-le}
-use native.Mathlib.Numerals.{add-one}
-use lib.Seq.{drop-cons}
+use lib.ListN.{length, get_or}
 use lib.Dec.{eqb}
+use Rattle.std.specs.Prelude.{Option, Some, None, MatchOption, slice_get}
+use Rattle.std.specs.List.{filter, enumerate_from}
 use Rattle.rules.specs.Maps.{nth}
 use Rattle.rules.specs.Bytes.{byte, are_bytes}
 use Rattle.rules.specs.Legal.{some_on}
-use Rattle.rules.proofs.Laws.{cases, eqb_true, eqb_false}
+use Rattle.rules.proofs.Laws.{cases, eqb_false}
 use Rattle.rules.proofs.ByteLaws.{byte_small, bytes_drop}
 use Rattle.store.specs.Decode.{read_alarms}
 use Rattle.store.proofs.AlarmBits.{shown_by, on_byte}
@@ -96,40 +96,41 @@ none_read (suc n) (k ∷ ks) (x ∷ b) e h l =
     (λ t. rw (off_here x s t) (none_read (suc n) ks b (omega arith) (bytes_drop 1 (x ∷ b) h) (omega (arith, l, place_past_off (suc n) x b t))))
     (λ t. rw (on_here x s t) (none_read n ks b (omega arith) (bytes_drop 1 (x ∷ b) h) (omega (arith, l, place_past_next n x b t))))
 
--- ---- a turn of a loop over such bytes, and its end
+-- ---- what the code's chains keep: the bytes with an alarm that is on
 
-module _ (b : List ℕ) (i : ℕ) where
-  pub count_end : length b ≤ i → count_on (drop i b) ≡ 0
-  unfolding count_on
-  count_end h = rw (drop_of_length-le b h)
+abbrev pub is_on : ℕ → Bool
+is_on x = not (eqb x 0)
 
-  pub place_end : (n : ℕ) → length b ≤ i → place_on n (drop i b) ≡ 0
-  unfolding place_on
-  place_end n h = rw (drop_of_length-le b h)
+pub count_kept : (b : List ℕ) → length (filter is_on b) ≡ count_on b
+unfolding count_on
+count_kept [] = refl
+count_kept (x ∷ b) = cases (eqb x 0) (λ t. rw t (count_kept b)) (λ t. rw t (ap suc (count_kept b)))
 
-  module _ (h : i < length b) where
-    next : drop i b ≡ get_or b i 0 ∷ drop (i + 1) b
-    next = drop-cons b i 0 h ∙ ap (λ (j : ℕ). get_or b i 0 ∷ drop j b) (sym (add-one i))
+-- a place and its byte
+abbrev pub on_at : ℕ × ℕ → Bool
+on_at p = is_on p.1
 
-    pub count_off : get_or b i 0 ≡ 0 → count_on (drop i b) ≡ count_on (drop (i + 1) b)
-    unfolding count_on
-    count_off e = rw (next, eqb_true (get_or b i 0) 0 e)
+-- the n-th of them is at this place, counted from m; or there are not so many
+abbrev pub Placed : ℕ → ℕ → ℕ → Option (ℕ × ℕ) → Type 0
+Placed m place n o = MatchOption o (place ≡ n) (λ p. (p.0 ≡ m + place) × (place < n))
 
-    pub count_one : get_or b i 0 ≢ 0 → count_on (drop i b) ≡ suc (count_on (drop (i + 1) b))
-    unfolding count_on
-    count_one e = rw (next, eqb_false (get_or b i 0) 0 e)
+further_on : (m place n : ℕ) (o : Option (ℕ × ℕ)) → Placed (m + 1) place n o → Placed m (suc place) (suc n) o
+further_on m place n None h = ap suc h
+further_on m place n (Some p) h = (let e = h.0 in omega arith, let l = h.1 in omega arith)
 
-    pub place_found : (n : ℕ) → n ≡ 0 → get_or b i 0 ≢ 0 → place_on n (drop i b) ≡ 0
-    place_found n z e = ap (λ (m : ℕ). place_on m (drop i b)) z ∙ ap (place_on 0) next ∙ place_here (get_or b i 0) (drop (i + 1) b) (eqb_false (get_or b i 0) 0 e)
+none_placed : (n : ℕ) → place_on n [] ≡ 0
+unfolding place_on
+none_placed n = refl
 
-    -- the answer from here on is the answer
-    module _ (n m z : ℕ) (is : i + place_on n (drop i b) ≡ z) where
-      pub place_off : m ≡ n → get_or b i 0 ≡ 0 → i + 1 + place_on m (drop (i + 1) b) ≡ z
-      place_off g e =
-          let q : place_on n (drop i b) ≡ suc (place_on n (drop (i + 1) b)) = ap (place_on n) next ∙ place_past_off n (get_or b i 0) (drop (i + 1) b) (eqb_true (get_or b i 0) 0 e) in
-          ap (λ (k : ℕ). i + 1 + place_on k (drop (i + 1) b)) g ∙ omega (arith, is, q)
+place_kept : (m n : ℕ) (b : List ℕ) → Placed m (place_on n b) (length b) (slice_get (filter on_at (enumerate_from m b)) n)
+place_kept m n [] = none_placed n
+place_kept m zero (x ∷ b) = cases (eqb x 0)
+    (λ t. rw (place_past_off zero x b t, t) (further_on m (place_on zero b) (length b) _ (place_kept (m + 1) zero b)))
+    (λ t. rw (place_here x b t, t) (omega arith, omega arith))
+place_kept m (suc n) (x ∷ b) = cases (eqb x 0)
+    (λ t. rw (place_past_off (suc n) x b t, t) (further_on m (place_on (suc n) b) (length b) _ (place_kept (m + 1) (suc n) b)))
+    (λ t. rw (place_past_next n x b t, t) (further_on m (place_on n b) (length b) _ (place_kept (m + 1) n b)))
 
-      pub place_next : m ≡ n - 1 → n ≢ 0 → get_or b i 0 ≢ 0 → i + 1 + place_on m (drop (i + 1) b) ≡ z
-      place_next g ne e =
-          let q : place_on n (drop i b) ≡ suc (place_on (n - 1) (drop (i + 1) b)) = ap (place_on n) next ∙ place_past_on n (get_or b i 0) (drop (i + 1) b) ne (eqb_false (get_or b i 0) 0 e) in
-          ap (λ (k : ℕ). i + 1 + place_on k (drop (i + 1) b)) g ∙ omega (arith, is, q)
+-- what the chain answers for the number n
+pub placed : (n k : ℕ) (b : List ℕ) {o : Option (ℕ × ℕ)} → k ≡ n → o ≡ slice_get (filter on_at (enumerate_from 0 b)) k → Placed 0 (place_on n b) (length b) o
+placed n k b is e = rw (e, is) (place_kept 0 n b)

@@ -6,7 +6,7 @@ use mathlib.Core.Logic.{◌≢◌}
 use mathlib.Core.Bool.{true, false}
 use mathlib.Core.Option.{some}
 use mathlib.Core.List.{List, [], ◌∷◌, ◌++◌}
-use lib.ListN.{length, take, drop, get_or, set, replicate, length-set}
+use lib.ListN.{length, take, drop, get_or, set, replicate, length-set, length-take}
 use lib.Seq.{get_or-take, get_or-drop}
 use lib.Dec.{eqb}
 use Rattle.rules.specs.Maps.{◌and◌, Map, given, nth}
@@ -39,6 +39,9 @@ use Rattle.sound_store.proofs.AlarmPart.{slot_keys, walk_read, slot_bytes_are_by
 -- so many bytes from a place on, as the code lends them
 lent : (o n : ℕ) → o + n - o ≡ n
 lent o n = omega arith
+
+pub length_lent : (o : ℕ) (b : List ℕ) (n : ℕ) → length (take (o + n - o) (drop o b)) ≤ n
+length_lent o b n = let e = length-take (o + n - o) (drop o b) in omega arith
 
 module _ (c i : ℕ) (s : State) (a : Answer) where
   walks : (eqb c ont_data and eqb i 0) ≡ true → if_ont_data c i s a ≡ a
@@ -130,23 +133,28 @@ module _ (pr : Product) (b : List ℕ) (h : Sound pr b) where
         in_walk : (alarms_next (now pr b h) c i v).1 ≡ given (nth (read_alarms (slot_keys pr b h) (slot_bytes_at pr b h (walk_at + 1))) (two v 0)) [] alarms_contents
         in_walk = rw (asked, (walk_read pr b h), eqb_false (byte b walk_at) 0 e)
 
-        pub nothing_left : (z : List ℕ) (k n j : ℕ) → k ≡ length (slot_keys pr b h) → n ≡ two v 0 → j ≡ place_on n (take ((walk_at + 1) + k - (walk_at + 1)) (drop (walk_at + 1) b))
-            → k ≤ j → z ≡ replicate 32 0
-            → z ≡ fill 32 (alarms_next (now pr b h) c i v).1
-        nothing_left z k n j ek en ej g blank =
-            let s = slot_bytes_length pr b h (walk_at + 1) (omega arith) in
-            let p : j ≡ place_on (two v 0) (slot_bytes_at pr b h (walk_at + 1)) = rw (lent (walk_at + 1) k, ek, en) at ej in
-            rw (in_walk, none_read (two v 0) (slot_keys pr b h) (slot_bytes_at pr b h (walk_at + 1)) s (slot_bytes_are_bytes pr b h (walk_at + 1) (omega arith)) (omega arith)) blank
+        -- the bytes of so many slots, as the code lends them
+        abbrev lent_bytes : ℕ → List ℕ
+        lent_bytes k = take ((walk_at + 1) + k - (walk_at + 1)) (drop (walk_at + 1) b)
 
-        pub next_shown : (o : List ℕ) (k n j d m : ℕ) → k ≡ length (slot_keys pr b h) → n ≡ two v 0
-            → j ≡ place_on n (take ((walk_at + 1) + k - (walk_at + 1)) (drop (walk_at + 1) b)) → j < k
+        pub nothing_left : (z : List ℕ) {k n : ℕ} → k ≡ length (slot_keys pr b h) → n ≡ two v 0 → place_on n (lent_bytes k) ≡ length (lent_bytes k)
+            → z ≡ replicate 32 0
+            → z ≡ fill 32 (alarms_next (now pr b h) c i v).1
+        nothing_left z {k} {n} ek en g blank =
+            let s = slot_bytes_length pr b h (walk_at + 1) (omega arith) in
+            let p : place_on (two v 0) (slot_bytes_at pr b h (walk_at + 1)) ≡ length (slot_bytes_at pr b h (walk_at + 1)) = rw (lent (walk_at + 1) k, ek, en) at g in
+            rw (in_walk, none_read (two v 0) (slot_keys pr b h) (slot_bytes_at pr b h (walk_at + 1)) s (slot_bytes_are_bytes pr b h (walk_at + 1) (omega arith)) (omega (arith, p))) blank
+
+        pub next_shown : {o : List ℕ} {k n j : ℕ} (d m : ℕ) → k ≡ length (slot_keys pr b h) → n ≡ two v 0
+            → (j ≡ place_on n (lent_bytes k)) × (j < length (lent_bytes k))
             → key d m ≡ get_or (slot_keys pr b h) j 0 → m < 65536 → o ≡ fill 32 (bytes 2 d ++ bytes 2 m ++ byte b ((walk_at + 1) + j) ∷ [])
             → o ≡ fill 32 (alarms_next (now pr b h) c i v).1
         unfolding alarms_contents
-        next_shown o k n j d m ek en ej g same small is =
+        next_shown {o} {k} {n} {j} d m ek en at_place same small is =
             let s = slot_bytes_length pr b h (walk_at + 1) (omega arith) in
             let bs = slot_bytes_are_bytes pr b h (walk_at + 1) (omega arith) in
-            let p : j ≡ place_on (two v 0) (slot_bytes_at pr b h (walk_at + 1)) = rw (lent (walk_at + 1) k, ek, en) at ej in
+            let p : j ≡ place_on (two v 0) (slot_bytes_at pr b h (walk_at + 1)) = rw (lent (walk_at + 1) k, ek, en) at at_place.0 in
+            let g : j < length (slot_bytes_at pr b h (walk_at + 1)) = rw (lent (walk_at + 1) k, ek) at at_place.1 in
             let y : byte (slot_bytes_at pr b h (walk_at + 1)) j ≡ byte b ((walk_at + 1) + j) = get_or-take (length (slot_keys pr b h)) (drop (walk_at + 1) b) j 0 (omega arith)
             ∙ get_or-drop (walk_at + 1) b j 0 in
             let lt : byte b ((walk_at + 1) + j) < 256 = rw y at (byte_small (slot_bytes_at pr b h (walk_at + 1)) j bs) in

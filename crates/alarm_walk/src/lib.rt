@@ -1,5 +1,7 @@
 // Get all alarms and its Next: the alarms are frozen when they are asked for, then shown instance by instance.
-ghost use Rattle.std.specs.Prelude.{◌≡◌, [], ◌∷◌, ◌++◌, ◌≤◌, length, replicate};
+#![tactic(auto)]
+
+ghost use Rattle.std.specs.Prelude.{◌≡◌, [], ◌∷◌, ◌++◌, ◌<◌, ◌≤◌, length, replicate, MatchOption};
 ghost use Rattle.rules.specs.Bytes.{bytes, fill};
 ghost use Rattle.rules.specs.Walks.{all_alarms, alarms_next};
 ghost use Rattle.sound_store.specs.Held.{state_in, Sound, Leaves};
@@ -18,33 +20,18 @@ fn how_many_on(b: &[u8]) -> u16
     requires { length b.now ≤ slot_count }
     ensures { result ≡ count_on b.now }
 {
-    let mut n: u16 = 0;
-    let mut i = 0;
-    while i < b.len() {
-        if b[i] != 0 {
-            n += 1;
-        }
-        i += 1;
-    }
-    n
+    b.iter().filter(|x| **x != 0).count() as u16
 }
 
-// Where the n-th byte stands that has an alarm that is on, counted from 0; the length if there are not so many.
-fn nth_on(b: &[u8], n: u16) -> usize
-    ensures { result ≡ place_on n b.now }
+// Where the n-th byte stands that has an alarm that is on, counted from 0, if there are so many.
+fn nth_on(b: &[u8], n: u16) -> Option<usize>
+    ensures { MatchOption result (place_on n b.now ≡ length b.now) (λ i. (i ≡ place_on n b.now) × (i < length b.now)) }
 {
-    let mut left = n;
-    let mut i = 0;
-    while i < b.len() {
-        if b[i] != 0 {
-            if left == 0 {
-                return i;
-            }
-            left -= 1;
-        }
-        i += 1;
-    }
-    i
+    b.iter()
+        .enumerate()
+        .filter(|(_, x)| **x != 0)
+        .nth(usize::from(n))
+        .map(|(i, _)| i)
 }
 
 // Get all alarms: freezes the alarms, sets the alarm number to 0, and tells how many instances have alarms that are on.
@@ -62,7 +49,8 @@ pub fn all_alarms(store: &mut [u8], product: Product, class: u16, number: u16, o
     octets::put_number(out, 0, n);
 }
 
-// Writes an instance's class, number and alarms into contents that are all zero.
+// Writes an instance's class, number and alarms into contents that are all zero. (What it has in common with `upload_walk::put_head`
+// are two calls of `put_number`, which a function for both would say no plainer.)
 fn show(out: &mut [u8], class: u16, number: u16, alarms: u8)
     requires { out.old ≡ replicate 32 0 }
     ensures { out.new ≡ fill 32 (bytes 2 class ++ bytes 2 number ++ alarms ∷ []) }
@@ -92,8 +80,7 @@ pub fn alarms_next(
     }
     let n = slots::slots(product);
     let e = FROZEN_AT + n;
-    let j = nth_on(&store[FROZEN_AT..e], octets::number_at(v, 0));
-    if j < n {
+    if let Some(j) = nth_on(&store[FROZEN_AT..e], octets::number_at(v, 0)) {
         let shown = slots::slot_instance(product, j);
         show(out, shown.class, shown.number, store[FROZEN_AT + j]);
     }

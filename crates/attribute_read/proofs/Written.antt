@@ -5,19 +5,18 @@ use native.Mathlib.Nat.{div-eq_of_lt}
 use mathlib.Core.Path.{◌≡◌, refl, sym, ◌∙◌, ap}
 use mathlib.Core.Bool.{Bool, true, false, cond}
 use mathlib.Core.List.{List, [], ◌∷◌, ◌++◌}
-use lib.ListN.{length, take, drop, set, replicate, length-replicate, length-take, length-drop}
+use lib.ListN.{length, take, drop, set, replicate, length-replicate, length-drop}
 use lib.Seq.{length-take-le}
 use lib.Dec.{eqb}
 use borrow.Rule.Slice.PartMut.{mid_of, put_mid}
 use Rattle.rules.specs.Maps.{◌and◌}
 use Rattle.rules.specs.Bytes.{byte, two, bytes, laid}
 use Rattle.octets.proofs.Laid.{laid_part, length_laid, laid_next, one_laid}
-use Rattle.store.specs.Layout.{place_width, place_length, block_length, places_at, in_use_at, key_length, place_count}
-use Rattle.table.specs.declared.Which.{Which}
+use Rattle.store.specs.Layout.{place_length, places_at, in_use_at, key_length, place_count}
 use Rattle.table.specs.Places.{InShape, how_many_hold}
 use Rattle.attribute_read.specs.declared.Origin.TheVariants.{At, Count}
 use Rattle.attribute_read.specs.declared.Item.{Item}
-use Rattle.attribute_read.specs.Values.{shown_from, shown, Fits}
+use Rattle.attribute_read.specs.Values.{shown_from, shown}
 
 -- ---- a count
 
@@ -72,20 +71,6 @@ count_written n size to last b v small some room l e =
     rw (zeros, there) (one ∙ laid_next to z b r (n ∷ []) ∙ ap (λ (x : List ℕ). laid to x b) (sym (small_bytes k n small) ∙ ap (λ (m : ℕ). bytes m n) (sym sk)))
 
 -- ---- an item
-
-module _ {which : Which} {live frozen : List ℕ} {x : Item} {to room : ℕ} (f : Fits which live frozen x to room) where
-  pub at_fits : {o : ℕ} → x.origin ≡ At o → (o + x.size ≤ length live) × (o + x.size ≤ length frozen)
-  at_fits {o} e =
-      let p : o + x.size ≤ block_length = rw e at f.placed in
-      let a = f.live_long in
-      let b = f.frozen_long in
-      (omega arith, omega arith)
-
-  pub count_fits : {d o : ℕ} → x.origin ≡ Count d o → o + 2 ≤ place_width
-  count_fits e = rw e at f.placed
-
-pub part_fits : (to size room : ℕ) (w : List ℕ) {v : List ℕ} → v ≡ take size w → to + size ≤ room → to + length v ≤ room
-part_fits to size room w e h = rw e (simp length-take (omega arith))
 
 pub shown_at : (b : List ℕ) (i : ℕ) (x : Item) {o : ℕ} → x.origin ≡ At o → take x.size (drop o b) ≡ shown b i x
 unfolding shown_from

@@ -14,10 +14,10 @@ ghost use Rattle.class_tables.specs.declared.Product.{Product};
 use attribute_tables::readings::Reading;
 use attribute_tables::{begins, readings};
 use class_tables::{Product, classes, sizes};
-use table::Which;
+use table::{Shown, Which};
 
 // Where an attribute's content comes from.
-#[derive(Clone, Copy)]
+#[derive(Clone, Copy, Debug, PartialEq, Eq)]
 pub enum Origin {
     // the bytes of the table from this place on
     At(usize),
@@ -26,19 +26,10 @@ pub enum Origin {
 }
 
 // An attribute of an instance: how many bytes it has, and where they come from.
-#[derive(Clone, Copy)]
+#[derive(Clone, Copy, Debug, PartialEq, Eq)]
 pub struct Item {
     pub size: usize,
     pub origin: Origin,
-}
-
-// Attributes of an instance, those of a mask. Its contents begin at `at` in the table.
-#[derive(Clone, Copy)]
-pub struct Shown {
-    pub class: u16,
-    pub number: u16,
-    pub at: usize,
-    pub mask: u16,
 }
 
 // Where the content of a stored attribute begins in its entry.
@@ -62,31 +53,17 @@ fn item_for(product: Product, class: u16, n: u16, at: usize) -> Item
     requires { Within (cat_of product) class at × (supported (class_for product class) n ≡ true) }
     ensures { result ≡ item_of (cat_of product) class at n }
 {
-    let size = size_of(product, class, n);
-    let reading = readings::reading_of(product, class, n);
-    match reading {
+    let origin = match readings::reading_of(product, class, n) {
         Reading::OfCreator(m) => {
             let entry = at - classes::inside(product, class);
-            let o = entry + in_entry(product, classes::leader_of(product, class), m);
-            Item {
-                size,
-                origin: Origin::At(o),
-            }
+            Origin::At(entry + in_entry(product, classes::leader_of(product, class), m))
         }
-        Reading::CountOf(d, m) => {
-            let o = in_entry(product, d, m);
-            Item {
-                size,
-                origin: Origin::Count(d, o),
-            }
-        }
-        Reading::Own => {
-            let o = at + begins::begin_of(product, class, n);
-            Item {
-                size,
-                origin: Origin::At(o),
-            }
-        }
+        Reading::CountOf(d, m) => Origin::Count(d, in_entry(product, d, m)),
+        Reading::Own => Origin::At(at + begins::begin_of(product, class, n)),
+    };
+    Item {
+        size: size_of(product, class, n),
+        origin,
     }
 }
 
@@ -96,10 +73,11 @@ fn naming(live: &[u8], frozen: &[u8], which: Which, class: u16, at: usize, numbe
     ensures { result
         ≡ how_many_hold class at number (byte (chosen which live.now frozen.now) 1) (drop places_at (chosen which live.now frozen.now)) }
 {
-    match which {
-        Which::Live => table::naming(live, class, at, number),
-        Which::Frozen => table::naming(frozen, class, at, number),
-    }
+    let b = match which {
+        Which::Live => live,
+        Which::Frozen => frozen,
+    };
+    table::naming(b, class, at, number)
 }
 
 // Writes a count, which is below 256, into so many bytes.
@@ -108,7 +86,7 @@ fn put_count(count: usize, size: usize, out: &mut [u8], to: usize)
     ensures { out.new ≡ laid to (bytes size count) out.old }
 {
     let last = to + size - 1;
-    octets::zero(&mut out[to..last]);
+    out[to..last].fill(0);
     out[last] = count as u8;
 }
 
@@ -125,16 +103,14 @@ fn put<'a>(
     requires { Fits which live.now frozen.now x to (length out.old) }
     ensures { out.new ≡ laid to (shown (chosen which live.now frozen.now) number x) out.old }
 {
-    let size = x.size;
-    let origin = x.origin;
-    match origin {
+    match x.origin {
         Origin::At(o) => {
-            let part = table::attribute_part(live, frozen, which, o, size);
+            let part = table::attribute_part(live, frozen, which, o, x.size);
             octets::copy_in(out, to, part);
         }
         Origin::Count(class, o) => {
             let count = naming(live, frozen, which, class, o, number);
-            put_count(count, size, out, to);
+            put_count(count, x.size, out, to);
         }
     }
 }
@@ -155,8 +131,7 @@ pub fn pack<'a>(
     let mut to = 0;
     for n in bits::named(what.mask) {
         let x = item_for(product, what.class, n, what.at);
-        let size = x.size;
         put(live, frozen, which, what.number, x, out, to);
-        to += size;
+        to += x.size;
     }
 }

@@ -1,8 +1,7 @@
 -- The drops of a report of an attribute: as the code tries them, and as the rules list them.
 use Prim.Native.Nat.{ℕ, ◌<◌}
-use native.Mathlib.Omega.{arith}
 use mathlib.Core.Path.{◌≡◌, refl, sym, ◌∙◌, ap}
-use mathlib.Core.Bool.{Bool, true, false, not}
+use mathlib.Core.Bool.{Bool, true, false}
 use mathlib.Core.Option.{Option, none, some}
 use mathlib.Core.Logic.{◌≢◌}
 use mathlib.Core.List.{List, []}
@@ -12,13 +11,12 @@ use Rattle.rules.specs.Catalogue.{Class, attribute, size_of}
 use Rattle.rules.specs.State.{State, holds, contents}
 use Rattle.rules.specs.Legal.{fixed_contents, legal_content}
 use Rattle.rules.specs.Reports.{attribute_drops}
-use Rattle.rules.proofs.Laws.{cases, not-true, not-false, both, eqb_true, eqb_false, eqb_eq}
+use Rattle.rules.proofs.Laws.{cases, not-false, both, eqb_true, eqb_false, eqb_eq}
 use Rattle.class_tables.specs.declared.Attribute.{Attribute}
 use Rattle.class_tables.specs.Built.{cat_of, class_for}
 use Rattle.class_tables.specs.Meaning.{reports, meaning}
 use Rattle.class_tables.specs.Describes.{DescribedIn}
 use Rattle.class_tables.proofs.EveryProduct.{well_formed_of}
-use Rattle.message_frame.specs.Drops.{drop_code}
 use Rattle.table.specs.Spots.{spot_among}
 use Rattle.table.specs.Places.{keys_in}
 use Rattle.table.specs.Live.{Holding}
@@ -28,33 +26,32 @@ use Rattle.attribute_check.proofs.Looking.{by_its_line}
 use Rattle.legality.proofs.Refusals.{NoneApplies, none_applies}
 use Rattle.attribute_report.specs.Spotted.{content_drops}
 use Rattle.class_tables.specs.declared.Product.{Product}
-use Rattle.message_frame.proofs.Laws.{told_dropped, told_none}
 use Rattle.legality.proofs.Contents.{passes_anywhere}
 
 -- ---- where the instance is there, by the attribute's line
 
 module _ (there : ℕ → ℕ → Bool) (k : Class) (b : List ℕ) (at : ℕ) (a : Attribute) (v : List ℕ) where
-  abbrev code : ℕ
-  code = drop_code (first_that_applies (content_drops there k b at a v))
+  abbrev first : Option ℕ
+  first = first_that_applies (content_drops there k b at a v)
 
   module _ {rep : Bool} (e : rep ≡ reports a.rights) where
-    pub not_reported : not rep ≡ true → 12 ≡ code
+    pub not_reported : rep ≡ false → some 12 ≡ first
     unfolding content_drops meaning first_that_applies
-    not_reported t = rw (sym e ∙ not-true t) refl
+    not_reported t = rw (sym e ∙ t) refl
 
-    module _ (t : not rep ≡ false) where
-      pub other_size : length v ≢ a.size → 13 ≡ code
+    module _ (t : rep ≡ true) where
+      pub other_size : length v ≢ a.size → some 13 ≡ first
       unfolding content_drops meaning first_that_applies ◌and◌
-      other_size h = rw (sym e ∙ not-false t, eqb_false (length v) a.size h) refl
+      other_size h = rw (sym e ∙ t, eqb_false (length v) a.size h) refl
 
       module _ (h : length v ≡ a.size) {legal : Bool} (g : legal ≡ legal_by there k b at a v) where
-        pub not_legal : legal ≡ false → 13 ≡ code
+        pub not_legal : legal ≡ false → some 13 ≡ first
         unfolding content_drops meaning first_that_applies ◌and◌
-        not_legal z = rw (sym e ∙ not-false t, eqb_true (length v) a.size h, sym g ∙ z) refl
+        not_legal z = rw (sym e ∙ t, eqb_true (length v) a.size h, sym g ∙ z) refl
 
-        pub none_told : legal ≡ true → 0 ≡ code
+        pub none_told : legal ≡ true → none ≡ first
         unfolding content_drops meaning first_that_applies ◌and◌
-        none_told z = rw (sym e ∙ not-false t, eqb_true (length v) a.size h, sym g ∙ z) refl
+        none_told z = rw (sym e ∙ t, eqb_true (length v) a.size h, sym g ∙ z) refl
 
 -- ---- the same as the rules'
 
@@ -93,18 +90,20 @@ module _ (pr : Product) (live : List ℕ) (s : State) (q : Holding (cat_of pr) l
     pub sized : length v ≡ size_of k n
     pub undropped : first_that_applies drops ≡ none
 
-  module _ {o : ℕ} (found : sought ≡ some o) {a : Attribute} (d : DescribedIn k n a) {code : ℕ} (e : code ≡ drop_code (first_that_applies (content_drops there k live o a v))) where
-    told_is : first_that_applies (content_drops there k live o a v) ≡ first_that_applies drops
+  module _ {o : ℕ} (found : sought ≡ some o) {a : Attribute} (d : DescribedIn k n a) where
+    abbrev line_drops : List (Bool × ℕ)
+    line_drops = content_drops there k live o a v
+
+    told_is : first_that_applies line_drops ≡ first_that_applies drops
     unfolding content_drops attribute_drops first_that_applies
     told_is = rw (d.is, by_its_line there d live o v, held found) (cases (attribute k n).L (λ y. rw (y, judged_alone o y) refl) (λ y. rw y refl))
 
-    pub rules_drop : code ≢ 0 → first_that_applies drops ≡ some code
-    rules_drop z = told_dropped (first_that_applies drops) (e ∙ ap drop_code told_is) z
+    pub rules_drop : {code : ℕ} → some code ≡ first_that_applies line_drops → first_that_applies drops ≡ some code
+    rules_drop e = sym (e ∙ told_is)
 
-    pub accepted : code ≡ 0 → Accepted
+    pub accepted : none ≡ first_that_applies line_drops → Accepted
     unfolding attribute_drops
-    accepted z =
-        let none_drops : first_that_applies drops ≡ none =
-        told_none drops ((λ y x. absurd (omega arith)), ((λ y x. absurd (omega arith)), ((λ y x. absurd (omega arith)), tt))) (sym (ap drop_code told_is) ∙ sym e ∙ z) in
+    accepted e =
+        let none_drops : first_that_applies drops ≡ none = sym (e ∙ told_is) in
         let p : NoneApplies drops = none_applies drops none_drops in
         record { reported = not-false p.1.0; sized = eqb_eq (length v) (size_of k n) (both (not-false p.1.1.0)).0; undropped = none_drops }

@@ -4,7 +4,6 @@ use native.Mathlib.Omega.{arith}
 use mathlib.Core.Path.{◌≡◌, refl, sym, ◌∙◌, ap}
 use mathlib.Core.Bool.{Bool, true, false, not, ◌&&◌}
 use mathlib.Core.Option.{Option, some, none}
-use mathlib.Core.Logic.{◌≢◌}
 use mathlib.Core.List.{List, [], ◌∷◌, ◌++◌}
 use lib.ListN.{length, take, drop}
 use lib.Seq.{take_at}
@@ -35,7 +34,8 @@ use Rattle.octets.proofs.Parted.{part}
 use Rattle.store.proofs.StateLaid.{live_length}
 use Rattle.table.proofs.WriteLaid.{write_laid}
 use Rattle.attribute_check.specs.Judges.{is_in}
-use Rattle.outcome.specs.declared.Outcome.TheVariants.{Answered, Quiet, Dropped}
+use Rattle.outcome.specs.declared.Outcome.{Outcome}
+use Rattle.outcome.specs.declared.Outcome.TheVariants.{Answered, Quiet}
 use Rattle.outcome.specs.Outcomes.{left_by, leaves}
 use Rattle.sound_store.specs.Held.{state_in, Sound, stored}
 use Rattle.sound_store.proofs.Held.{live_is, live_held, live_shaped, live_opened, live_changed}
@@ -45,7 +45,12 @@ use Rattle.attribute_report.specs.Spotted.{content_drops}
 use Rattle.table.proofs.ContentsRead.{live_read}
 use Rattle.attribute_report.proofs.Drops.{Accepted, accepted, not_there, rules_drop}
 use Rattle.class_tables.specs.declared.Product.{Product}
-use Rattle.message_frame.specs.Drops.{drop_code}
+use Rattle.message_frame.specs.Drops.{drop_number}
+use Rattle.message_frame.specs.declared.drops.DropReason.{DropReason}
+use Rattle.message_frame.specs.declared.drops.DropReason.TheVariants.{NoSuchInstance}
+use Rattle.std.specs.Prelude.{Some, Result, Ok, Err, IsErrAnd}
+use Rattle.std.specs.Prelude as code
+use Rattle.class_tables.specs.Finding.{found_of}
 
 abbrev live_in : List ℕ → List ℕ
 live_in b = part live_at block_length b
@@ -63,10 +68,15 @@ pub record Taken (pr : Product) (b buffer : List ℕ) (c i n : ℕ) (v : List �
   pub short : length v ≤ 25
   pub inside : o + a.at + length v ≤ block_length
   pub if_quiet : {now : List ℕ} {differs : Bool} → Wrote (o + a.at) v (live_in b) now differs → (differs && a.avc) ≡ false
-      → left_by Quiet (put_mid live_at block_length b now) buffer ≡ left pr b buffer c i n v
+      → left_by (Ok Quiet) (put_mid live_at block_length b now) buffer ≡ left pr b buffer c i n v
   pub if_answered : {now : List ℕ} {differs : Bool} → Wrote (o + a.at) v (live_in b) now differs → (differs && a.avc) ≡ true
       → {reply : List ℕ} → reply ≡ notification avc_type c i (bytes 2 (mask (n ∷ [])) ++ v) ++ drop 48 buffer
-      → left_by Answered (put_mid live_at block_length b now) reply ≡ left pr b buffer c i n v
+      → left_by (Ok Answered) (put_mid live_at block_length b now) reply ≡ left pr b buffer c i n v
+
+-- the error that a `?` hands on is the one that it met
+pub handed_on : {T : Type 0} {d : DropReason} (r : Result T DropReason) → IsErrAnd r (λ e. e ≡ d) → r ≡ Err d
+handed_on (Ok x) h = absurd h
+handed_on (Err e) h = ap Err h
 
 module _ (pr : Product) (b buffer : List ℕ) (h : Sound pr b) (c i n : ℕ) (v : List ℕ) (lt : i < 65536) where
   abbrev s : State
@@ -81,19 +91,29 @@ module _ (pr : Product) (b buffer : List ℕ) (h : Sound pr b) (c i n : ℕ) (v 
   abbrev sought : Option ℕ
   sought = spot_among (cat_of pr) (keys_in live) c i
 
-  pub when_missing : sought ≡ none → left_by (Dropped 11) b buffer ≡ left pr b buffer c i n v
+  pub when_missing : sought ≡ none → {r : Result Outcome DropReason} → r ≡ Err NoSuchInstance → left_by r b buffer ≡ left pr b buffer c i n v
   unfolding report_attribute unless_dropped leave
-  when_missing e = rw (not_there pr live s (live_held pr b h) c i n v lt e) refl
+  when_missing e is = rw (is, not_there pr live s (live_held pr b h) c i n v lt e) refl
 
-  module _ {o : ℕ} (found : sought ≡ some o) {a : Attribute} (d : DescribedIn k n a) {code : ℕ}
-      (told : code ≡ drop_code (first_that_applies (content_drops (is_in (cat_of pr) live) k live o a v))) where
-    pub when_dropped : code ≢ 0 → left_by (Dropped code) b buffer ≡ left pr b buffer c i n v
+  -- where it is, and its line, as the code has them
+  module _ {o m : ℕ} {a : Attribute} {place : code.Option ℕ} (located : found_of place ≡ sought) (there : place ≡ Some o) (read : m ≡ n) (line : DescribedIn k m a) where
+    found : sought ≡ some o
+    found = sym located ∙ ap found_of there
+
+    d : DescribedIn k n a
+    d = rw read at line
+
+    abbrev first : Option ℕ
+    first = first_that_applies (content_drops (is_in (cat_of pr) live) k live o a v)
+
+    pub when_dropped : {reason : DropReason} → some (drop_number reason) ≡ first → {r : Result Outcome DropReason} → r ≡ Err reason
+        → left_by r b buffer ≡ left pr b buffer c i n v
     unfolding report_attribute unless_dropped leave
-    when_dropped z = rw (rules_drop pr live s (live_held pr b h) c i n v lt found d told z) refl
+    when_dropped e is = rw (is, rules_drop pr live s (live_held pr b h) c i n v lt found d e) refl
 
-    module _ (z : code ≡ 0) where
+    module _ (e : none ≡ first) where
       ok : Accepted pr live s (live_held pr b h) c i n v lt
-      ok = accepted pr live s (live_held pr b h) c i n v lt found d told z
+      ok = accepted pr live s (live_held pr b h) c i n v lt found d e
 
       -- ---- the attribute
 
@@ -168,9 +188,9 @@ module _ (pr : Product) (b buffer : List ℕ) (h : Sound pr b) (c i n : ℕ) (v 
         unfolding ◌and◌
         is_sent t = rw (← new_if_differs, ← wrote.1, ← avc_is d) t
 
-        quiet_left : (differs && a.avc) ≡ false → left_by Quiet (put_mid live_at block_length b now) buffer ≡ left pr b buffer c i n v
+        quiet_left : (differs && a.avc) ≡ false → left_by (Ok Quiet) (put_mid live_at block_length b now) buffer ≡ left pr b buffer c i n v
         unfolding report_attribute unless_dropped leave written stored
-        quiet_left t = rw (ok.undropped, is_sent t) (ap (λ (x : List ℕ). left_by Quiet x buffer) (store_after wrote.0))
+        quiet_left t = rw (ok.undropped, is_sent t) (ap (λ (x : List ℕ). left_by (Ok Quiet) x buffer) (store_after wrote.0))
 
         abbrev message : List ℕ
         message = notification avc_type c i (bytes 2 (mask (n ∷ [])) ++ v)
@@ -180,7 +200,7 @@ module _ (pr : Product) (b buffer : List ℕ) (h : Sound pr b) (c i n : ℕ) (v 
         message_length = framed_length (0 ∷ 0 ∷ []) avc_type (bytes 2 c ++ bytes 2 i) (bytes 2 (mask (n ∷ [])) ++ v) refl refl
 
         answered_left : (differs && a.avc) ≡ true → {reply : List ℕ} → reply ≡ message ++ drop 48 buffer
-            → left_by Answered (put_mid live_at block_length b now) reply ≡ left pr b buffer c i n v
+            → left_by (Ok Answered) (put_mid live_at block_length b now) reply ≡ left pr b buffer c i n v
         unfolding report_attribute unless_dropped leave written stored
         answered_left t {reply} f =
             let front : take 48 reply ≡ message = ap (take 48) f ∙ take_at message (drop 48 buffer) 48 message_length in

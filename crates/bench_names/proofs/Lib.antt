@@ -1,2 +1,2 @@
-pub mod Unnamed
+pub mod Tables
 pub mod Examples

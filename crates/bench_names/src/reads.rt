@@ -1,37 +1,22 @@
 // Reading a message whose length isn't known: what isn't there counts as zero.
+ghost use Rattle.std.specs.Prelude.{◌≡◌, get_or};
 
 // The byte at a place.
-pub fn byte_at(s: &[u8], i: usize) -> u8 {
-    if i < s.len() { s[i] } else { 0 }
+pub fn byte_at(s: &[u8], i: usize) -> u8
+    ensures { result ≡ get_or s.now i 0 }
+{
+    s.get(i).copied().unwrap_or(0)
 }
 
 // The number in two bytes at a place.
 pub fn number_at(s: &[u8], i: usize) -> u16 {
-    if s.len() < 2 {
-        return 0;
+    match part(s, i, s.len()) {
+        [high, low, ..] => u16::from_be_bytes([*high, *low]),
+        _ => 0,
     }
-    if i > s.len() - 2 {
-        return 0;
-    }
-    octets::number_at(s, i)
 }
 
 // The bytes from a place to another; none where they aren't all there.
-pub fn part(s: &[u8], a: usize, e: usize) -> &[u8] {
-    if e <= s.len() {
-        if a <= e {
-            return &s[a..e];
-        }
-    }
-    &s[0..0]
-}
-
-// The place so many bytes behind another; the end where there aren't so many.
-pub fn behind(s: &[u8], at: usize, size: usize) -> usize {
-    if at <= s.len() {
-        if size <= s.len() - at {
-            return at + size;
-        }
-    }
-    s.len()
+pub fn part(s: &[u8], from: usize, to: usize) -> &[u8] {
+    s.get(from..to).unwrap_or(&[])
 }

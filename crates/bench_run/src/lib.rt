@@ -1,5 +1,6 @@
-// A run of the bench terminal: what is known while a script is played, the room for what is read, and what is printed.
+// A run of the bench terminal: what is known while a script is played, and what is printed.
+#![tactic(auto)]
+
 pub mod complaints;
 pub mod printing;
-pub mod rooms;
 pub mod run;

@@ -1,159 +1,162 @@
 // The calls of a script: each is handed to the engine, and its outcome told.
-use bench_names::names::put_drop;
+use super::bench::Bench;
+use bench_names::names::{Dropped, Instance};
 use bench_names::reads::{byte_at, number_at};
-use bench_run::printing::{put_head, say};
-use bench_run::run::Run;
-use bench_words::replies::put_told;
-use bench_words::requests::{put_asked, put_raised, put_report};
-use outcome::{Outcome, Started};
+use bench_words::replies::Sent;
+use bench_words::requests::{Message, Raised, Report};
+use message_frame::drops::DropReason;
+use outcome::Outcome;
+use std::fmt;
 use store::layout::{MEMORY_AT, MEMORY_END};
-use text_buffer::text::{put, put_message};
+use text_buffer::text::Groups;
 
-fn is_answered(o: Outcome) -> bool {
-    match o {
-        Outcome::Answered => true,
-        Outcome::Quiet => false,
-        Outcome::Dropped(_) => false,
+// What a call came to; an answer to a repeat is the old one.
+#[derive(Clone, Copy)]
+struct Came<'a> {
+    again: bool,
+    outcome: Result<Outcome, DropReason>,
+    reply: &'a [u8],
+}
+
+impl fmt::Display for Came<'_> {
+    fn fmt<W: fmt::Write>(&self, f: &mut fmt::Formatter<W>) -> fmt::Result {
+        match self.outcome {
+            Ok(Outcome::Answered) => write_answer(f, self.again, self.reply),
+            Ok(Outcome::Quiet) => f.write_str("\n  quiet: nothing to send\n"),
+            Err(reason) => write!(f, "\n  {}\n", Dropped(u8::from(reason))),
+        }
     }
 }
 
 // An answer: its bytes, and its words.
-fn put_answer(out: &mut [u8], at: usize, reply: &[u8]) -> usize {
-    let word = put(out, at, b"\n  sent: ");
-    let shown = put_message(out, word, reply);
-    let begun = put(out, shown, b"\n  ");
-    let told = put_told(out, begun, reply);
-    put(out, told, b"\n")
-}
-
-fn put_dropped(out: &mut [u8], at: usize, code: u8) -> usize {
-    let begun = put(out, at, b"\n  ");
-    let told = put_drop(out, begun, code);
-    put(out, told, b"\n")
-}
-
-// What a call came to.
-fn put_outcome(out: &mut [u8], at: usize, o: Outcome, reply: &[u8]) -> usize {
-    match o {
-        Outcome::Answered => put_answer(out, at, reply),
-        Outcome::Quiet => put(out, at, b"\n  quiet: nothing to send\n"),
-        Outcome::Dropped(n) => put_dropped(out, at, n),
+fn write_answer<W: fmt::Write>(
+    f: &mut fmt::Formatter<W>,
+    again: bool,
+    reply: &[u8],
+) -> fmt::Result {
+    if again {
+        f.write_str("\n  a repeat: it gets the old reply, and nothing changes")?;
     }
+    write!(f, "\n  sent: {}\n  {}\n", Groups(reply), Sent(reply))
 }
 
-// Has a message the first 40 bytes of the last answered command?
-fn is_again(desk: &[u8], m: &[u8]) -> bool {
-    if desk.len() < MEMORY_END {
-        return false;
-    }
-    if m.len() != 48 {
-        return false;
-    }
-    remembered_command::is_repeat(&desk[MEMORY_AT..MEMORY_END], m)
-}
-
-// What a message came to; an answer to a repeat is the old one.
-fn put_result(out: &mut [u8], at: usize, again: bool, o: Outcome, reply: &[u8]) -> usize {
-    if again & is_answered(o) {
-        let told = put(
-            out,
-            at,
-            b"\n  a repeat: it gets the old reply, and nothing changes",
-        );
-        return put_outcome(out, told, o, reply);
-    }
-    put_outcome(out, at, o, reply)
-}
-
-// A command was answered, or not: its id and the head of its answer are remembered, and a section of an upload is kept.
-fn remembered(desk: &mut [u8], o: Outcome, m: &[u8], reply: &[u8], run: Run) -> Run {
-    let mut next = run;
-    next.count = number_at(reply, 8);
-    if is_answered(o) {
-        next.last = number_at(m, 0);
-    }
-    next.kept = keep(desk, run.kept, reply);
-    next
-}
-
-// Keeps a section of an upload behind the others.
-fn keep(desk: &mut [u8], at: usize, reply: &[u8]) -> usize {
-    if byte_at(reply, 2) == 0x2E {
-        return put(desk, at, reply);
-    }
-    at
-}
-
-// A message.
-pub fn exchange(desk: &mut [u8], m: &[u8], run: Run) -> Run {
-    let mut page = [0u8; 4096];
-    let out: &mut [u8] = &mut page;
-    let mut space = [0u8; 48];
-    let reply: &mut [u8] = &mut space;
-    let head = put_head(out, 0, run.number);
-    let asked = put_asked(out, head, m);
-    let again = is_again(desk, m);
-    let o = engine::handle(desk, m, reply);
-    let end = put_result(out, asked, again, o, reply);
-    say(out, end, remembered(desk, o, m, reply, run))
-}
-
-// A local report of an attribute.
-pub fn report(
-    desk: &mut [u8],
-    class: u16,
-    number: u16,
-    attribute: u8,
-    content: &[u8],
-    run: Run,
-) -> Run {
-    let mut page = [0u8; 4096];
-    let out: &mut [u8] = &mut page;
-    let mut space = [0u8; 48];
-    let reply: &mut [u8] = &mut space;
-    let head = put_head(out, 0, run.number);
-    let asked = put_report(out, head, class, number, attribute, content);
-    let o = engine::report_attribute(desk, class, number, attribute, content, reply);
-    let end = put_outcome(out, asked, o, reply);
-    say(out, end, run)
-}
-
-// A local report of an alarm.
-pub fn alarm(desk: &mut [u8], class: u16, number: u16, alarm: u8, on: bool, run: Run) -> Run {
-    let mut page = [0u8; 4096];
-    let out: &mut [u8] = &mut page;
-    let mut space = [0u8; 48];
-    let reply: &mut [u8] = &mut space;
-    let head = put_head(out, 0, run.number);
-    let asked = put_raised(out, head, class, number, alarm, on);
-    let o = engine::report_alarm(desk, class, number, alarm, on, reply);
-    let end = put_outcome(out, asked, o, reply);
-    say(out, end, run)
-}
-
-// A product that is on, by its name; a number that no script asks for has none.
-fn put_fresh(out: &mut [u8], at: usize, product: u8) -> usize {
+// A product by its number; one that no script asks for has no name.
+fn product_name(product: u8) -> Option<&'static str> {
     match product {
-        1 => put(out, at, b"power small\n  fresh: the small product is on\n"),
-        2 => put(out, at, b"power large\n  fresh: the large product is on\n"),
-        3 => put(out, at, b"power meter\n  fresh: the meter product is on\n"),
-        _ => put(out, at, b"power\n  fresh: the product is on\n"),
+        1 => Some("small"),
+        2 => Some("large"),
+        3 => Some("meter"),
+        _ => None,
     }
 }
 
-fn put_power(out: &mut [u8], at: usize, product: u8, o: Started) -> usize {
-    match o {
-        Started::Fresh => put_fresh(out, at, product),
-        Started::Dropped(n) => put_dropped(out, at, n),
+// What a power-on came to.
+#[derive(Clone, Copy)]
+struct Powered {
+    product: u8,
+    started: Result<(), DropReason>,
+}
+
+impl fmt::Display for Powered {
+    fn fmt<W: fmt::Write>(&self, f: &mut fmt::Formatter<W>) -> fmt::Result {
+        match self.started {
+            Ok(()) => match product_name(self.product) {
+                Some(name) => write!(f, "power {name}\n  fresh: the {name} product is on\n"),
+                None => f.write_str("power\n  fresh: the product is on\n"),
+            },
+            Err(reason) => write!(f, "\n  {}\n", Dropped(u8::from(reason))),
+        }
     }
 }
 
-// Powers a product on: 1 small, 2 large, 3 meter.
-pub fn power(desk: &mut [u8], product: u8, run: Run) -> Run {
-    let mut page = [0u8; 256];
-    let out: &mut [u8] = &mut page;
-    let head = put_head(out, 0, run.number);
-    let o = engine::power_on(desk, product);
-    let end = put_power(out, head, product, o);
-    say(out, end, run)
+impl Bench {
+    // Has a message the first 40 bytes of the last answered command?
+    fn is_again(&self, m: &[u8]) -> bool {
+        m.len() == 48 && remembered_command::is_repeat(&self.store[MEMORY_AT..MEMORY_END], m)
+    }
+
+    // A command was answered, or not: its id and the head of its answer are remembered, and a section of an upload is kept.
+    fn remember(&mut self, outcome: Result<Outcome, DropReason>, m: &[u8], reply: &[u8]) {
+        self.run.count = number_at(reply, 8);
+        if matches!(outcome, Ok(Outcome::Answered)) {
+            self.run.last = number_at(m, 0);
+        }
+        if byte_at(reply, 2) == 0x2E {
+            self.keep(reply);
+        }
+    }
+
+    // What was asked for in the present line, and what it came to.
+    fn tell<R: Print + AllocGlobal, T: fmt::Display>(
+        &mut self,
+        rt: &R,
+        asked: &T,
+        came: &Came<'_>,
+    ) {
+        let line = self.run.number;
+        self.run
+            .say(rt, &format_args!("line {line}: {asked}{came}"));
+    }
+
+    // A message.
+    pub(crate) fn exchange<R: Print + AllocGlobal>(&mut self, rt: &R, m: &[u8]) {
+        let mut reply = [0u8; 48];
+        let again = self.is_again(m);
+        let outcome = engine::handle(&mut self.store, m, &mut reply);
+        self.remember(outcome, m, &reply);
+        let came = Came {
+            again,
+            outcome,
+            reply: &reply,
+        };
+        self.tell(rt, &Message(m), &came);
+    }
+
+    // A local report of an attribute.
+    pub(crate) fn report<R: Print + AllocGlobal>(&mut self, rt: &R, asked: Report<'_>) {
+        let mut reply = [0u8; 48];
+        let Instance { class, number } = asked.instance;
+        let outcome = engine::report_attribute(
+            &mut self.store,
+            class,
+            number,
+            asked.attribute,
+            asked.content,
+            &mut reply,
+        );
+        let came = Came {
+            again: false,
+            outcome,
+            reply: &reply,
+        };
+        self.tell(rt, &asked, &came);
+    }
+
+    // A local report of an alarm.
+    pub(crate) fn alarm<R: Print + AllocGlobal>(&mut self, rt: &R, asked: Raised) {
+        let mut reply = [0u8; 48];
+        let Instance { class, number } = asked.instance;
+        let outcome = engine::report_alarm(
+            &mut self.store,
+            class,
+            number,
+            asked.alarm,
+            asked.on,
+            &mut reply,
+        );
+        let came = Came {
+            again: false,
+            outcome,
+            reply: &reply,
+        };
+        self.tell(rt, &asked, &came);
+    }
+
+    // Powers a product on: 1 small, 2 large, 3 meter.
+    pub(crate) fn power<R: Print + AllocGlobal>(&mut self, rt: &R, product: u8) {
+        let started = engine::power_on(&mut self.store, product);
+        let line = self.run.number;
+        let powered = Powered { product, started };
+        self.run.say(rt, &format_args!("line {line}: {powered}"));
+    }
 }

@@ -1,5 +1,10 @@
-// The bench terminal: scripts played line by line on a desk, with each outcome in hex and in words on standard output. A desk is a
-// store, and behind it room for sections of an upload.
-pub mod calls;
-pub mod lines;
-pub mod walks;
+// The bench terminal: scripts played line by line, with each outcome in hex and in words on standard output.
+#![tactic(auto)]
+
+mod bench;
+mod calls;
+mod lines;
+mod walks;
+
+pub use bench::Bench;
+pub use lines::Player;

@@ -1,104 +1,119 @@
 // The input, line by line: a line ends with a line feed, the last one perhaps with the input.
-ghost use Rattle.std.specs.Prelude.{◌<◌, ◌≤◌, length};
-
-use super::{calls, walks};
+use super::bench::Bench;
+use bench_names::names::Instance;
 use bench_names::reads::part;
-use bench_run::complaints::{long_line, wrong_line};
-use bench_run::rooms::bytes_room;
-use bench_run::run::{Run, next_line};
+use bench_run::run::Run;
 use bench_script::Asked;
-use text_buffer::text::put;
+use bench_words::requests::{Raised, Report};
+use std::alloc::{AllocError, Global};
 
-// What a line asks for.
-fn play_asked(asked: Asked, bytes: &[u8], desk: &mut [u8], run: Run) -> Run {
-    match asked {
-        Asked::Nothing => run,
-        Asked::Power(product) => calls::power(desk, product, run),
-        Asked::Message(length) => calls::exchange(desk, part(bytes, 0, length), run),
-        Asked::Report {
-            class,
-            number,
-            attribute,
-            length,
-        } => calls::report(desk, class, number, attribute, part(bytes, 0, length), run),
-        Asked::Alarm {
-            class,
-            number,
-            alarm,
-            on,
-        } => calls::alarm(desk, class, number, alarm, on, run),
-        Asked::Upload => walks::upload(desk, run),
-        Asked::Alarms => walks::alarms(desk, run),
-        Asked::Wrong { place, why } => wrong_line(place, why, run),
-    }
-}
+// How many bytes a line may have.
+const LINE: usize = 1048576;
 
-// A line that has ended.
-fn play_line(line: &[u8], desk: &mut [u8], run: Run) -> Run {
-    if run.length > line.len() {
-        return long_line(line.len(), run);
-    }
-    let mut room = bytes_room();
-    let bytes: &mut [u8] = &mut room;
-    let asked = bench_script::read_line(part(line, 0, run.length), bytes);
-    play_asked(asked, bytes, desk, run)
-}
+// The bytes that a line holds in hex: two digits each.
+const BYTES: usize = LINE / 2;
 
-// The end of the line that goes on at a place: its line feed, or the chunk's end.
-fn line_end(chunk: &[u8], from: usize) -> usize
-    requires { from ≤ length chunk.now }
-    ensures { (from ≤ result) × (result ≤ length chunk.now) }
-{
-    let mut i = from;
-    while i < chunk.len() {
-        if chunk[i] == b'\n' {
-            return i;
+impl Bench {
+    // What a line asks for.
+    fn play<R: Print + AllocGlobal>(&mut self, rt: &R, asked: Asked, bytes: &[u8]) {
+        match asked {
+            Asked::Power(product) => self.power(rt, product),
+            Asked::Message(length) => self.exchange(rt, part(bytes, 0, length)),
+            Asked::Report {
+                class,
+                number,
+                attribute,
+                length,
+            } => self.report(
+                rt,
+                Report {
+                    instance: Instance { class, number },
+                    attribute,
+                    content: part(bytes, 0, length),
+                },
+            ),
+            Asked::Alarm {
+                class,
+                number,
+                alarm,
+                on,
+            } => self.alarm(
+                rt,
+                Raised {
+                    instance: Instance { class, number },
+                    alarm,
+                    on,
+                },
+            ),
+            Asked::Upload => self.upload(rt),
+            Asked::Alarms => self.alarms(rt),
         }
-        i += 1;
     }
-    i
 }
 
-// More bytes of a line. Those for which there is no room are counted.
-fn append(line: &mut [u8], piece: &[u8], run: Run) -> Run {
-    let mut next = run;
-    put(line, run.length, piece);
-    next.length = std::num::wrapping_add_usize(run.length, piece.len());
-    next
+// A bench, and the room for what is played on it.
+#[derive(Drop)]
+pub struct Player {
+    pub bench: Bench,
+    // what came of the present line; a byte more than it may have shows that it is longer
+    line: Vec<u8>,
+    // room for the bytes that a line holds in hex
+    bytes: Vec<u8>,
 }
 
-// A piece of a line, up to its line feed or the chunk's end; a line that has ended is played.
-fn take_piece(
-    chunk: &[u8],
-    from: usize,
-    end: usize,
-    line: &mut [u8],
-    desk: &mut [u8],
-    run: Run,
-) -> Run {
-    let longer = append(line, part(chunk, from, end), run);
-    if end < chunk.len() {
-        return next_line(play_line(line, desk, longer));
+impl Player {
+    pub fn new(alloc: Global, run: Run) -> Result<Player, AllocError> {
+        Ok(Player {
+            bench: Bench::new(alloc, run)?,
+            line: Vec::with_capacity(alloc, LINE + 1)?,
+            bytes: vec![in alloc; 0; BYTES]?,
+        })
     }
-    longer
-}
 
-// A chunk of the input.
-pub fn take_chunk(chunk: &[u8], line: &mut [u8], desk: &mut [u8], run: Run) -> Run {
-    let mut now = run;
-    let mut from = 0;
-    while from < chunk.len() {
-        let end = line_end(chunk, from);
-        now = take_piece(chunk, from, end, line, desk, now);
-        from = end + 1;
+    // The line has ended, and the next one begins.
+    fn end_line<R: Print + AllocGlobal>(&mut self, rt: &R) {
+        if self.line.len() > LINE {
+            self.bench.run.long_line(rt, LINE);
+        } else {
+            match bench_script::read_line(&self.line, &mut self.bytes) {
+                Ok(None) => {}
+                Ok(Some(asked)) => self.bench.play(rt, asked, &self.bytes),
+                Err(wrong) => self.bench.run.wrong_line(rt, wrong),
+            }
+        }
+        self.line.clear();
+        self.bench.run.next_line();
     }
-    now
-}
 
-// The end of the input: what came behind the last line feed is a line too.
-pub fn take_end(line: &mut [u8], desk: &mut [u8], run: Run) -> Run {
-    if run.length == 0 {
-        return run;
+    // More bytes of the line. There is room for them, or they are more than it may have.
+    fn append(&mut self, piece: &[u8]) {
+        let room = (LINE + 1).saturating_sub(self.line.len());
+        if self
+            .line
+            .extend_from_slice(&piece[..piece.len().min(room)])
+            .is_err()
+        {
+            self.bench.run.written = false;
+        }
     }
-    next_line(play_line(line, desk, run))
+
+    // A chunk of the input.
+    pub fn take_chunk<R: Print + AllocGlobal>(&mut self, rt: &R, chunk: &[u8]) {
+        for piece in chunk.split_inclusive(|&byte| byte == b'\n') {
+            match piece.strip_suffix(b"\n") {
+                Some(end) => {
+                    self.append(end);
+                    self.end_line(rt);
+                }
+                None => self.append(piece),
+            }
+        }
+    }
+
+    // The end of the input: what came behind the last line feed is a line too.
+    pub fn take_end<R: Print + AllocGlobal>(&mut self, rt: &R) {
+        if !self.line.is_empty() {
+            self.end_line(rt);
+        }
+    }
 }

@@ -1,6 +1,8 @@
-// The sentences of the bench terminal: messages, replies, notifications and reports as texts, laid into a buffer that the caller lends.
-// Each writer takes the place where its text begins and answers the place behind it; a full buffer takes no more.
+// The sentences of the bench terminal: messages, replies, notifications and reports, as they are printed.
+#![tactic(auto)]
+
 pub mod alarms;
+mod lists;
 pub mod masks;
 pub mod replies;
 pub mod requests;

@@ -1,86 +1,85 @@
 // Attributes that a mask names: their names, or a line for each with its content.
-use bench_names::names::put_attribute;
-use bench_names::reads::{behind, part};
+use super::lists::write_list;
+use bench_names::names::attribute;
 use class_tables::Product;
-use text_buffer::text::{put, put_bytes};
+use std::fmt;
+use text_buffer::text::Hexes;
 
-// Does a mask name the n-th attribute, counted from 1?
-fn names(mask: u16, n: u8) -> bool {
-    if n == 0 {
-        return false;
-    }
-    if n > 16 {
-        return false;
-    }
-    (mask & bits::bit_of(n as u16)) != 0
-}
-
-// The n-th attribute in a list of names, if the mask names it: a comma stands before each but the first.
-fn put_listed(out: &mut [u8], first: usize, at: usize, class: u16, mask: u16, n: u8) -> usize {
-    if !names(mask, n) {
-        return at;
-    }
-    if at == first {
-        return put_attribute(out, at, class, n);
-    }
-    let comma = put(out, at, b", ");
-    put_attribute(out, comma, class, n)
+// Does a mask name an attribute? They are counted from 1.
+fn is_named(mask: u16, number: u8) -> bool {
+    matches!(number, 1..=16) && mask & bits::bit_of(u16::from(number)) != 0
 }
 
 // The names of the attributes in a mask.
-pub fn put_names(out: &mut [u8], at: usize, class: u16, mask: u16) -> usize {
-    let mut to = at;
-    let mut n: u8 = 1;
-    while n <= 16 {
-        to = put_listed(out, at, to, class, mask, n);
-        n += 1;
-    }
-    to
+#[derive(Clone, Copy)]
+pub struct Names {
+    pub class: u16,
+    pub mask: u16,
 }
 
-// The names in a mask behind a word, unless the mask is zero.
-pub fn put_marked(out: &mut [u8], at: usize, word: &[u8], class: u16, mask: u16) -> usize {
-    if mask == 0 {
-        return at;
+impl fmt::Display for Names {
+    fn fmt<W: fmt::Write>(&self, f: &mut fmt::Formatter<W>) -> fmt::Result {
+        let (class, mask) = (self.class, self.mask);
+        write_list(
+            f,
+            17,
+            |number| is_named(mask, number).then_some(attribute(class, number)),
+        )
     }
-    let begun = put(out, at, b"\n    ");
-    let named = put(out, begun, word);
-    put_names(out, named, class, mask)
 }
 
-// How many bytes the n-th attribute of a class takes where the mask names it; Large has every attribute that the other products have, under the same number.
-fn size_in(class: u16, mask: u16, n: u8) -> usize {
-    if !names(mask, n) {
-        return 0;
-    }
-    let a = attribute_tables::attribute_of(Product::Large, class, n as u16);
-    a.size
+// A line with the names in a mask behind a word, unless the mask is zero.
+#[derive(Clone, Copy)]
+pub struct Marked {
+    pub word: &'static str,
+    pub names: Names,
 }
 
-// A line for the n-th attribute and its content, if the mask names it.
-fn put_content(out: &mut [u8], at: usize, class: u16, mask: u16, n: u8, content: &[u8]) -> usize {
-    if !names(mask, n) {
-        return at;
+impl fmt::Display for Marked {
+    fn fmt<W: fmt::Write>(&self, f: &mut fmt::Formatter<W>) -> fmt::Result {
+        if self.names.mask == 0 {
+            return Ok(());
+        }
+        write!(f, "\n    {}: {}", self.word, self.names)
     }
-    let begun = put(out, at, b"\n    ");
-    let named = put_attribute(out, begun, class, n);
-    if content.len() == 0 {
-        return put(out, named, b": no content");
+}
+
+// How many bytes an attribute of a class takes; Large has every attribute that the other products have, under the same number.
+fn size_of(class: u16, number: u8) -> usize {
+    attribute_tables::attribute_of(Product::Large, class, u16::from(number)).size
+}
+
+// What a line says of an attribute's content.
+#[derive(Clone, Copy)]
+struct Content<'a>(&'a [u8]);
+
+impl fmt::Display for Content<'_> {
+    fn fmt<W: fmt::Write>(&self, f: &mut fmt::Formatter<W>) -> fmt::Result {
+        if self.0.is_empty() {
+            return f.write_str(": no content");
+        }
+        write!(f, " = {}", Hexes(self.0))
     }
-    let equals = put(out, named, b" = ");
-    put_bytes(out, equals, content)
 }
 
 // A line for each attribute in a mask, whose contents stand one behind the other.
-pub fn put_contents(out: &mut [u8], at: usize, class: u16, mask: u16, values: &[u8]) -> usize {
-    let mut to = at;
-    let mut from = 0;
-    let mut n: u8 = 1;
-    while n <= 16 {
-        let end = behind(values, from, size_in(class, mask, n));
-        to = put_content(out, to, class, mask, n, part(values, from, end));
-        from = end;
-        n += 1;
+#[derive(Clone, Copy)]
+pub struct Contents<'a> {
+    pub names: Names,
+    pub values: &'a [u8],
+}
+
+impl fmt::Display for Contents<'_> {
+    fn fmt<W: fmt::Write>(&self, f: &mut fmt::Formatter<W>) -> fmt::Result {
+        let Names { class, mask } = self.names;
+        let mut rest = self.values;
+        for number in 1..=16 {
+            if is_named(mask, number) {
+                let (content, behind) = rest.split_at(size_of(class, number).min(rest.len()));
+                write!(f, "\n    {}{}", attribute(class, number), Content(content))?;
+                rest = behind;
+            }
+        }
+        Ok(())
     }
-    to
 }

@@ -1,120 +1,114 @@
 // What is asked for, in words: a command, or a message that is none; a report; an alarm.
-use super::masks::{put_contents, put_names};
-use bench_names::names::{put_alarm, put_attribute, put_instance, put_message_name};
+use super::masks::{Contents, Names};
+use super::replies::instance_of;
+use bench_names::names::{Instance, alarm, attribute, message};
 use bench_names::reads::{byte_at, number_at, part};
-use message_frame::numbers::{ALARMS_NEXT, CREATE, GET, SET, UPLOAD_NEXT};
-use text_buffer::text::{put, put_bytes, put_decimal, put_hex, put_number};
-
-// The attributes that a Create carries, as a mask.
-fn carried(class: u16) -> u16 {
-    match class {
-        45 => 0xFE00,
-        47 => 0xFF80,
-        _ => 0,
-    }
-}
-
-// The section that a Next asks for.
-fn put_section(out: &mut [u8], at: usize, m: &[u8]) -> usize {
-    let word = put(out, at, b", section ");
-    put_decimal(out, word, number_at(m, 8) as u64)
-}
+use class_tables::Product;
+use class_tables::masks::carried_mask;
+use message_frame::commands::Command;
+use std::fmt;
+use text_buffer::text::{HexNumber, Hexes};
 
 // The names that a Get asks for.
-fn put_wanted(out: &mut [u8], at: usize, m: &[u8]) -> usize {
-    let word = put(out, at, b": ");
-    let end = put_names(out, word, number_at(m, 4), number_at(m, 8));
-    if end == word {
-        return put(out, word, b"no attribute");
+fn write_wanted<W: fmt::Write>(f: &mut fmt::Formatter<W>, names: Names) -> fmt::Result {
+    if names.mask == 0 {
+        return f.write_str(": no attribute");
     }
-    end
+    write!(f, ": {names}")
+}
+
+// A command's attributes and their contents.
+fn write_contents<W: fmt::Write>(
+    f: &mut fmt::Formatter<W>,
+    class: u16,
+    mask: u16,
+    values: &[u8],
+) -> fmt::Result {
+    let names = Names { class, mask };
+    write!(f, "{}", Contents { names, values })
 }
 
 // What a command carries, by its number.
-fn put_carried(out: &mut [u8], at: usize, m: &[u8]) -> usize {
+fn write_carried<W: fmt::Write>(f: &mut fmt::Formatter<W>, m: &[u8]) -> fmt::Result {
     let class = number_at(m, 4);
-    match byte_at(m, 2) % 32 {
-        CREATE => put_contents(out, at, class, carried(class), part(m, 8, 40)),
-        SET => put_contents(out, at, class, number_at(m, 8), part(m, 10, 40)),
-        GET => put_wanted(out, at, m),
-        ALARMS_NEXT => put_section(out, at, m),
-        UPLOAD_NEXT => put_section(out, at, m),
-        _ => at,
+    let head = number_at(m, 8);
+    match Command::try_from(byte_at(m, 2) % 32) {
+        // Large carries all that Small does
+        Ok(Command::Create) => {
+            let carried = carried_mask(Product::Large, class);
+            write_contents(f, class, carried, part(m, 8, 40))
+        }
+        Ok(Command::Set) => write_contents(f, class, head, part(m, 10, 40)),
+        Ok(Command::Get) => write_wanted(f, Names { class, mask: head }),
+        Ok(Command::AlarmsNext | Command::UploadNext) => write!(f, ", section {head}"),
+        _ => Ok(()),
     }
 }
 
 // A command: its name, its instance, its id and what it carries.
-fn put_command(out: &mut [u8], at: usize, m: &[u8]) -> usize {
-    let named = put_message_name(out, at, byte_at(m, 2) % 32);
-    let comma = put(out, named, b", ");
-    let told = put_instance(out, comma, number_at(m, 4), number_at(m, 6));
-    let word = put(out, told, b", id ");
-    let end = put_number(out, word, number_at(m, 0));
-    put_carried(out, end, m)
-}
-
-// A message of 48 bytes that is no command.
-fn put_other(out: &mut [u8], at: usize, m: &[u8]) -> usize {
-    let word = put(out, at, b"message of type 0x");
-    put_hex(out, word, byte_at(m, 2))
+fn write_command<W: fmt::Write>(f: &mut fmt::Formatter<W>, m: &[u8]) -> fmt::Result {
+    let name = message(byte_at(m, 2) % 32);
+    let instance = instance_of(m);
+    let id = HexNumber(number_at(m, 0));
+    write!(f, "{name}, {instance}, id {id}")?;
+    write_carried(f, m)
 }
 
 // A message as it is handed to the engine.
-pub fn put_asked(out: &mut [u8], at: usize, m: &[u8]) -> usize {
-    if m.len() == 48 {
-        if byte_at(m, 2) / 32 == 2 {
-            return put_command(out, at, m);
+#[derive(Clone, Copy)]
+pub struct Message<'a>(pub &'a [u8]);
+
+impl fmt::Display for Message<'_> {
+    fn fmt<W: fmt::Write>(&self, f: &mut fmt::Formatter<W>) -> fmt::Result {
+        let m = self.0;
+        let kind = byte_at(m, 2);
+        if m.len() != 48 {
+            return write!(f, "message of length {}", m.len());
         }
-        return put_other(out, at, m);
+        if kind / 32 != 2 {
+            return write!(f, "message of type 0x{kind:02X}");
+        }
+        write_command(f, m)
     }
-    let word = put(out, at, b"message of length ");
-    put_decimal(out, word, m.len() as u64)
 }
 
 // A report's content; of a long one only how long it is.
-fn put_given(out: &mut [u8], at: usize, content: &[u8]) -> usize {
-    if content.len() == 0 {
-        return put(out, at, b"nothing");
+fn write_given<W: fmt::Write>(f: &mut fmt::Formatter<W>, content: &[u8]) -> fmt::Result {
+    match content.len() {
+        0 => f.write_str("nothing"),
+        1..=32 => write!(f, "{}", Hexes(content)),
+        length => write!(f, "{length} bytes"),
     }
-    if content.len() <= 32 {
-        return put_bytes(out, at, content);
-    }
-    let told = put_decimal(out, at, content.len() as u64);
-    put(out, told, b" bytes")
 }
 
 // A local report of an attribute.
-pub fn put_report(
-    out: &mut [u8],
-    at: usize,
-    class: u16,
-    number: u16,
-    attribute: u8,
-    content: &[u8],
-) -> usize {
-    let word = put(out, at, b"report, ");
-    let told = put_instance(out, word, class, number);
-    let comma = put(out, told, b", ");
-    let named = put_attribute(out, comma, class, attribute);
-    let equals = put(out, named, b" = ");
-    put_given(out, equals, content)
+#[derive(Clone, Copy)]
+pub struct Report<'a> {
+    pub instance: Instance,
+    pub attribute: u8,
+    pub content: &'a [u8],
+}
+
+impl fmt::Display for Report<'_> {
+    fn fmt<W: fmt::Write>(&self, f: &mut fmt::Formatter<W>) -> fmt::Result {
+        let name = attribute(self.instance.class, self.attribute);
+        write!(f, "report, {}, {name} = ", self.instance)?;
+        write_given(f, self.content)
+    }
 }
 
 // A local report of an alarm.
-pub fn put_raised(
-    out: &mut [u8],
-    at: usize,
-    class: u16,
-    number: u16,
-    alarm: u8,
-    on: bool,
-) -> usize {
-    let word = put(out, at, b"alarm, ");
-    let told = put_instance(out, word, class, number);
-    let comma = put(out, told, b", ");
-    let named = put_alarm(out, comma, class, alarm);
-    if on {
-        return put(out, named, b" on");
+#[derive(Clone, Copy)]
+pub struct Raised {
+    pub instance: Instance,
+    pub alarm: u8,
+    pub on: bool,
+}
+
+impl fmt::Display for Raised {
+    fn fmt<W: fmt::Write>(&self, f: &mut fmt::Formatter<W>) -> fmt::Result {
+        let name = alarm(self.instance.class, self.alarm);
+        let state = if self.on { "on" } else { "off" };
+        write!(f, "alarm, {}, {name} {state}", self.instance)
     }
-    put(out, named, b" off")
 }

@@ -1,6 +1,7 @@
 -- Contents that were read from bytes are legal exactly if the tests of their lines pass: one law for every class of every product.
 use Rattle.std.proofs.Common.{◌≡◌, ℕ, zero, suc, ◌+◌, ◌<◌, ◌≤◌, Bool, true, false, cond, eqb, ltb, leb, List, [], ◌∷◌, map, length, take, drop, sym, refl, ap, ◌∙◌, arith, drop-cons, drop-drop}
 use mathlib.Core.Option.{some}
+use Rattle.std.specs.Prelude.{Option, Some, None}
 use Rattle.rules.specs.Maps.{◌and◌, ◌or◌, Map, find, keys, keep, every, each, among, all}
 use Rattle.rules.specs.Bytes.{byte, two, number, number_from, are_bytes}
 use Rattle.rules.specs.Catalogue as rules
@@ -183,17 +184,17 @@ module _ (pr : Product) (c : ℕ) (b : List ℕ) (room : contents_width (class_f
         rw (e, two_bytes, o) (number_2 b (offset_of k n) (omega arith)))
 
     -- what a pointer is judged by is the byte of the line that it names
-    looked_is : (j e : ℕ) → a.rule ≡ Pointer e → a.only_if ≡ suc j → number (fixed_contents k (read_contents k b) (suc j)) ≡ byte b (line_in m (suc j)).at
+    looked_is : (j e : ℕ) → a.rule ≡ Pointer e → a.only_if ≡ Some j → number (fixed_contents k (read_contents k b) j) ≡ byte b (line_in m j).at
     unfolding fixed_contents read_contents line_for
     looked_is j e p q =
-        let l : Looked k (suc j) = rw q at (d.looks e p (λ z. let y : suc j ≡ 0 = sym q ∙ z in omega arith)) in
-        let s : among (suc j) (stored_numbers k) ≡ true = is_among_stored k (suc j) l.is_there l.kept in
-        let o : (line_in m (suc j)).at ≡ offset_of k (suc j) = (described_here pr c (suc j)).placed l.kept l.is_there in
-        let f = offset_fits k (suc j) s in
+        let l : Looked k j = d.looks e j p q in
+        let s : among j (stored_numbers k) ≡ true = is_among_stored k j l.is_there l.kept in
+        let o : (line_in m j).at ≡ offset_of k j = (described_here pr c j).placed l.kept l.is_there in
+        let f = offset_fits k j s in
         let one = l.one in
-        rw (l.fixed, cut_at (size_of k) (suc j) (stored_numbers k) b s, l.one, o) (number_1 b (offset_of k (suc j)) (omega arith))
+        rw (l.fixed, cut_at (size_of k) j (stored_numbers k) b s, l.one, o) (number_1 b (offset_of k j) (omega arith))
 
-    judged_by : (r : Rule) (o : ℕ) → a.rule ≡ r → a.only_if ≡ o
+    judged_by : (r : Rule) (o : Option ℕ) → a.rule ≡ r → a.only_if ≡ o
         → passes (there_or_gone cat) (rule_of r o v (fixed_contents k (read_contents k b))) ≡ rule_test cat (is_judged m b o) r (value_in a b)
     unfolding passes any from◌to◌ one_of an_existing existing_where
     judged_by Any o e q = refl
@@ -202,10 +203,10 @@ module _ (pr : Product) (c : ℕ) (b : List ℕ) (room : contents_width (class_f
         (passes_if (there_or_gone cat) (leb low (value_in a b) and leb (value_in a b) high) ∙ within_is low high (value_in a b) (value_small a b bs))
     judged_by (Listed x y) o e q =
         rw (number_is (λ z. never (ap is_any (sym e ∙ z)))) (passes_if (there_or_gone cat) (among (value_in a b) (x ∷ y ∷ [])) ∙ either_is (value_in a b) x y)
-    judged_by (Pointer e) zero p q = rw (number_is (λ z. never (ap is_any (sym p ∙ z)))) refl
-    judged_by (Pointer e) (suc j) p q =
+    judged_by (Pointer e) None p q = rw (number_is (λ z. never (ap is_any (sym p ∙ z)))) refl
+    judged_by (Pointer e) (Some j) p q =
         rw (number_is (λ z. never (ap is_any (sym p ∙ z))), looked_is j e p q)
-        (cases (eqb (byte b (line_in m (suc j)).at) 1) (λ t. rw t refl) (λ t. rw t refl))
+        (cases (eqb (byte b (line_in m j).at) 1) (λ t. rw t refl) (λ t. rw t refl))
 
     line_tested : legal_content (there_or_gone cat) k (read_contents k b) n v ≡ line_test cat m b (line_in m n)
     unfolding legal_content line_for

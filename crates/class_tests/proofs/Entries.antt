@@ -1,8 +1,9 @@
 -- The slots and places of the products, byte by byte: the contents of the class that leads an entry, then zeros.
-use Rattle.std.proofs.Common.{◌≡◌, ℕ, ◌≤◌, Bool, true, false, eqb, ltb, leb, List, [], ◌∷◌, length, take, drop, sym, refl, ap, ◌∙◌, arith, length-drop, take-append-drop, drop_of_length-le, length-take-le, take-suc, drop_at}
+use Rattle.std.proofs.Common.{◌≡◌, ℕ, ◌≤◌, Bool, true, false, ◌&&◌, eqb, ltb, leb, List, [], ◌∷◌, length, take, drop, sym, refl, ap, ◌∙◌, arith, length-drop, take-append-drop, drop_of_length-le, length-take-le, take-suc, drop_at}
+use lib.Dec.{leb-suc-zero, leb-suc-suc}
 use lib.Seq.{drop-append-le}
 use Rattle.rules.specs.Maps.{◌and◌, Map, keys, all, empty}
-use Rattle.rules.specs.Bytes.{byte, are_bytes, all_zero}
+use Rattle.rules.specs.Bytes.{byte, two, are_bytes, all_zero}
 use Rattle.rules.specs.Catalogue.{Class, Catalogue, class, is_created, family, ont_data}
 use Rattle.rules.proofs.Laws.{never, both, and_true, true_and, bool_eq, eqb_true, eqb_eq, leb_le, lt-ltb, ltb_lt}
 use Rattle.rules.proofs.MapLaws.{Each}
@@ -17,7 +18,7 @@ use Rattle.class_tables.specs.Built.{cat_of, class_for, by_product, provisioned}
 use Rattle.class_tables.specs.Lines.{lines_of, lines_in}
 use Rattle.class_tables.specs.Computing.{computing_tables}
 use Rattle.class_tables.proofs.EveryProduct.{well_formed_of, in_its_product, in_each, same_number, empty_none}
-use Rattle.class_tests.specs.ContentTests.{judged_lines, all_pass, lines_test, contents_test, computing_tests}
+use Rattle.class_tests.specs.ContentTests.{judged_lines, all_pass, lines_test, contents_test, pointer_test, computing_tests}
 use Rattle.class_tests.specs.Tests.{family_legal, family_test, entry_test, front_test, port_front}
 use Rattle.class_tests.proofs.ContentsTested.{contents_tested}
 
@@ -154,6 +155,19 @@ module _ (b : List ℕ) (h : length b ≡ place_width) (bs : are_bytes b ≡ tru
   large_port =
       front_is Large 47 port_front b (unfold computing_tables computing_tests in refl) (omega arith) bs (unfold computing_tables in refl) port_front
       ∙ rw (none_left port_front (take port_front b) (length-take-le port_front b (omega arith))) (and_end (contents_test Large 47 b))
+
+  -- the tests of the attributes before LANFCSInd
+  abbrev tested : Product → Bool
+  tested pr = (((pointer_test pr b && leb (two b 6) 255) && leb 1 (two b 8)) && leb (byte b 10) 1) && leb (byte b 11) 1
+
+  -- by the number that LANFCSInd is below
+  pub port_ended : (pr : Product) {end : ℕ} → end ≡ by_product pr 1 2 0 → (tested pr && ltb (byte b 12) end) ≡ front_test (cat_of pr) 47 port_front b
+  port_ended pr e =
+      in_its_product (λ pr end. (tested pr && ltb (byte b 12) end) ≡ front_test (cat_of pr) 47 port_front b) pr e (
+        ◌∙◌ {b = contents_test Small 47 b && ltb (byte b 12) 1} (unfold computing_tables computing_tests in refl) (sym (unfold ◌and◌ in small_port)),
+        rw (leb-suc-suc (byte b 12) 1) (◌∙◌ {b = contents_test Large 47 b} (unfold computing_tables computing_tests in refl) (sym large_port)),
+        rw (leb-suc-zero (byte b 12), no_front (cat_of Meter) 47 b (unfold computing_tables in refl) port_front) (join_never (tested Meter)),
+      )
 
 pub port_parts : (pr : Product) (b : List ℕ) → length b ≡ place_width
     → entry_test (cat_of pr) 47 b ≡ (front_test (cat_of pr) 47 port_front b and all_zero (drop port_front b))

@@ -1,5 +1,5 @@
 -- The contents of a class as one test of bytes, made of the lines of its attributes: what the code's straight-line tests say.
-use Rattle.std.specs.Prelude.{ℕ, zero, suc, Bool, true, false, cond, leb, List, [], ◌∷◌, map, ◌==◌, nat_eq, nat_le}
+use Rattle.std.specs.Prelude.{ℕ, Bool, true, false, cond, leb, List, [], ◌∷◌, map, ◌==◌, nat_eq, nat_le, Option, Some, None}
 use Rattle.rules.specs.Maps.{◌and◌, ◌or◌, Map, keep}
 use Rattle.rules.specs.Bytes.{byte, two}
 use Rattle.rules.specs.Catalogue.{Creation, created, automatic, comes_with, Catalogue, class}
@@ -22,10 +22,10 @@ value_in a b = cond (a.size == 1) (byte b a.at) (two b a.at)
 abbrev pub within : ℕ → ℕ → ℕ → Bool
 within low high x = cond (low == 0) (nat_le x high) (cond (high == 65535) (nat_le low x) (leb low x and leb x high))
 
--- a pointer is judged where this attribute of its instance is 1; 0 stands for always
-abbrev pub is_judged : Map Attribute → List ℕ → ℕ → Bool
-is_judged m b zero = true
-is_judged m b (suc n) = byte b (line_in m (suc n)).at == 1
+-- a pointer is judged where this attribute of its instance is 1; none: always
+abbrev pub is_judged : Map Attribute → List ℕ → Option ℕ → Bool
+is_judged m b None = true
+is_judged m b (Some n) = byte b (line_in m n).at == 1
 
 -- what a rule says of the number in a content; a pointer is judged or not
 abbrev pub rule_test : Catalogue → Bool → Rule → ℕ → Bool

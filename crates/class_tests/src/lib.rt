@@ -1,21 +1,23 @@
 // What follows the key in a place, class by class: straight-line tests of bytes, since every call tests the whole store. Tests that need no
 // order are joined by `&`, which makes no branch.
+#![tactic(auto)]
+
 ghost use Rattle.std.specs.Prelude.{◌≡◌, ◌≤◌, true, false, ◌&&◌, length, nat_le};
 ghost use Rattle.store.specs.Layout.{place_width};
 ghost use Rattle.class_tables.specs.Built.{cat_of, by_product};
 ghost use Rattle.class_tests.specs.ContentTests.{pointer_test};
 ghost use Rattle.class_tests.specs.Tests.{entry_test, front_test, port_front};
 
-use class_tables::built::provisioned;
-use class_tables::{Found, Product, slots};
-use std::num::wrapping_sub_u16;
+use class_tables::Product;
+use class_tables::built::{by, provisioned};
+use class_tables::slots::slot_of;
 
 // Is a number in a range, both ends in it? One comparison: what is below the range wraps to above it.
 fn between(x: u16, low: u16, high: u16) -> bool
     requires { low ≤ high }
     ensures { result ≡ (nat_le low x && nat_le x high) }
 {
-    wrapping_sub_u16(x, low) <= high - low
+    x.wrapping_sub(low) <= high - low
 }
 
 // A port's TPType, 1 or 2, with its TPPointer: of type 1 it names a UNI, which has a slot in this product, else it may be
@@ -25,11 +27,7 @@ fn pointer_legal(product: Product, c: &[u8]) -> bool
     ensures { result ≡ pointer_test product c.now }
 {
     if c[3] == 1 {
-        let slot = slots::slot_of(product, 11, octets::number_at(c, 4));
-        match slot {
-            Found::At(_) => true,
-            Found::Nothing => false,
-        }
+        slot_of(product, 11, octets::number_at(c, 4)).is_some()
     } else {
         c[3] == 2
     }
@@ -40,11 +38,7 @@ fn pointer_legal(product: Product, c: &[u8]) -> bool
 fn profile_fills(product: Product) -> bool
     ensures { result ≡ by_product product false true false }
 {
-    match product {
-        Product::Small => false,
-        Product::Large => true,
-        Product::Meter => false,
-    }
+    by(product, false, true, false)
 }
 
 // A place of a bridge service profile, 45, with its 46, whose contents may be anything. Meter has no bridges.
@@ -75,10 +69,6 @@ pub fn port_ok(product: Product, c: &[u8]) -> bool
     let priority = octets::number_at(c, 6);
     let cost = octets::number_at(c, 8);
     // LANFCSInd is below this: Small doesn't keep it, and Meter has no ports, so that nothing is legal
-    let end: u8 = match product {
-        Product::Small => 1,
-        Product::Large => 2,
-        Product::Meter => 0,
-    };
+    let end = by(product, 1, 2, 0);
     pointer & (priority <= 255) & (1 <= cost) & (c[10] <= 1) & (c[11] <= 1) & (c[12] < end)
 }

@@ -1,5 +1,5 @@
 -- What is bad in a Create: the attributes whose content isn't legal, and what isn't kept and must be zero.
-use Prim.Native.Nat.{ℕ, zero, suc, ◌+◌, ◌-◌, ◌^◌, ◌≤◌, ◌<◌}
+use Prim.Native.Nat.{ℕ, ◌+◌, ◌-◌, ◌^◌, ◌≤◌, ◌<◌}
 use native.Mathlib.Omega.{arith}
 use mathlib.Core.Path.{◌≡◌, refl, sym, ◌∙◌, ap}
 use mathlib.Core.Bool.{Bool, true, false, not}
@@ -9,6 +9,7 @@ use lib.ListN.{length, take, drop, replicate, length-drop}
 use lib.Seq.{length-take-le}
 use lib.Dec.{leb}
 use lib.Pow.{pow_pos}
+use Rattle.std.specs.Prelude.{Some, None}
 use Rattle.rules.specs.Bytes.{all_zero}
 use Rattle.rules.specs.Catalogue.{Class, size_of, carried_numbers}
 use Rattle.rules.specs.Commands.{cut, not_zero}
@@ -19,7 +20,7 @@ use Rattle.octets.proofs.Tests.{zeros_are, are_zeros}
 use Rattle.store.specs.Layout.{key_length}
 use Rattle.bits.proofs.Masks.{mask_append}
 use Rattle.class_tables.specs.Built.{cat_of, class_for}
-use Rattle.class_tables.specs.Meaning.{unkept_at, unkept_of}
+use Rattle.class_tables.specs.Meaning.{unkept_of}
 use Rattle.class_tables.specs.declared.Product.{Product}
 use Rattle.class_tables.specs.declared.Unkept.{Unkept}
 use Rattle.class_tables.proofs.Facts.{bits_apart, unkept_fits}
@@ -72,10 +73,6 @@ one_not_zero : (n z : ℕ) (w : List ℕ) → same (take z w) (replicate z 0) �
 unfolding not_zero mask
 one_not_zero n z w e = rw e (omega arith)
 
-unkept_one : (n z : ℕ) → n ≢ 0 → unkept_at n z ≡ (n, z) ∷ []
-unkept_one zero z h = absurd (h refl)
-unkept_one (suc n) z h = refl
-
 module _ (pr : Product) (c : ℕ) where
   abbrev k : Class
   k = class_for pr c
@@ -84,22 +81,19 @@ module _ (pr : Product) (c : ℕ) where
   abbrev kept : ℕ
   kept = total (size_of k) (carried_numbers k)
 
-  module _ (v : List ℕ) (long : length v ≡ 32) (u : Unkept) (is : unkept_of u ≡ k.unkept) where
+  module _ (v : List ℕ) (long : length v ≡ 32) where
     -- what is bad, where this isn't kept
     abbrev bad_of : Map ℕ → ℕ
     bad_of m = mask (not_zero m (drop kept v))
 
-    pub nothing_unkept : u.number ≡ 0 → 0 ≡ mask (unkept_bad k v)
+    pub nothing_unkept : unkept_of None ≡ k.unkept → 0 ≡ mask (unkept_bad k v)
     unfolding unkept_bad not_zero mask
-    nothing_unkept z = ap bad_of (sym (ap (λ (n : ℕ). unkept_at n u.size) z) ∙ is)
+    nothing_unkept is = ap bad_of is
 
-    module _ (some : u.number ≢ 0) where
-      is_one : k.unkept ≡ (u.number, u.size) ∷ []
-      is_one = sym is ∙ unkept_one u.number u.size some
-
+    module _ (u : Unkept) (is : unkept_of (Some u) ≡ k.unkept) where
       fits : (leb 1 u.number and leb u.number 16 and leb (kept + u.size) 32) ≡ true
       unfolding every
-      fits = (both (ap (every (λ n z. leb 1 n and leb n 16 and leb (kept + z) 32)) (sym is_one) ∙ unkept_fits pr c)).0
+      fits = (both (ap (every (λ n z. leb 1 n and leb n 16 and leb (kept + z) 32)) is ∙ unkept_fits pr c)).0
 
       pub is_number : (1 ≤ u.number) × (u.number ≤ 16)
       is_number = (leb_le 1 u.number (both fits).0, leb_le u.number 16 (both (both fits).1).0)
@@ -126,7 +120,7 @@ module _ (pr : Product) (c : ℕ) where
 
         bad_is_one : mask (unkept_bad k v) ≡ bad_of ((u.number, u.size) ∷ [])
         unfolding unkept_bad
-        bad_is_one = ap bad_of is_one
+        bad_is_one = ap bad_of (sym is)
 
         pub was_zero : {t : Bool} → t ≡ all_zero seen → t ≡ true → 0 ≡ mask (unkept_bad k v)
         was_zero g t = sym (bad_is_one ∙ one_zero u.number u.size (drop kept v) (zero_is g ∙ t))

@@ -5,10 +5,10 @@ use mathlib.Core.Path.{◌≡◌, refl, sym, ◌∙◌, ap}
 use mathlib.Core.Bool.{Bool, true, false}
 use mathlib.Core.Logic.{◌≢◌}
 use mathlib.Core.List.{List, [], ◌∷◌, ◌++◌}
-use lib.ListN.{length, take, drop, replicate, set}
+use lib.ListN.{length, replicate}
 use lib.Dec.{leb}
 use borrow.Rule.Slice.PartMut.{put_mid}
-use Rattle.rules.specs.Bytes.{byte, bytes, laid, are_bytes}
+use Rattle.rules.specs.Bytes.{byte, bytes, laid, are_bytes, fill}
 use Rattle.rules.specs.Catalogue.{Class, Catalogue, is_created, carried_numbers, key}
 use Rattle.rules.specs.Commands.{carried_by, new_entry, bad_in_create, create_results, with_created, move_counter, create}
 use Rattle.rules.specs.Maps.{is_some, keys, put, among, empty, first_that_applies}
@@ -36,7 +36,7 @@ use Rattle.table.specs.Spots.{rank, inserted}
 use Rattle.table.proofs.Counted.{counter_moved}
 use Rattle.table.proofs.TableMoved.{put_moved}
 use Rattle.sound_store.specs.Held.{state_in, Sound, Leaves}
-use Rattle.sound_store.proofs.Held.{as_stored, live_is, live_held, live_opened}
+use Rattle.sound_store.proofs.Held.{told, live_is, live_held, live_opened}
 use Rattle.sound_store.proofs.LiveTable.{made_held, live_given_back, created_keys, created_count}
 use Rattle.attribute_check.proofs.Held as judged
 use Rattle.create_command.specs.New.{unkept_bad, bad_carried, with_place}
@@ -75,8 +75,8 @@ module _ (pr : Product) (b : List ℕ) (h : Sound pr b) (c i : ℕ) (lt : i < 65
     held_is = made_held pr block t (live_held pr b h) c i lt cr ∙ sym p
 
     -- it is there already
-    pub exists : found ≡ true → (out : List ℕ) → out ≡ replicate 32 0 → Leaves pr (create cat s c i v) b b (set out 0 instance_exists)
-    exists e out z = rw answer (record { store = as_stored pr b h; reply = rw z refl })
+    pub exists : found ≡ true → Leaves pr (create cat s c i v) b b (fill 32 (instance_exists ∷ []))
+    exists e = rw answer (told pr b h (instance_exists ∷ []))
       where
         answer : create cat s c i v ≡ (s, instance_exists ∷ [])
         answer = unfold create create_results unless_refused first_that_applies in rw (held_is, e) refl
@@ -93,14 +93,12 @@ module _ (pr : Product) (b : List ℕ) (h : Sound pr b) (c i : ℕ) (lt : i < 65
     mask_is : bad ≡ mask (bad_in_create cat s c v)
     mask_is = found ∙ ap (λ (x : List ℕ). mask (bad_carried cat block k x v)) is ∙ ap mask bad_is
 
-    pub refused_bad : bad ≢ 0 → (out : List ℕ) → out ≡ replicate 32 0
-        → Leaves pr (create cat s c i v) b b (take 1 (set out 0 bad_parameter) ++ (bytes 2 bad ++ drop 3 (set out 0 bad_parameter)))
-    unfolding bytes
-    refused_bad n out z = rw answer (record { store = as_stored pr b h; reply = rw (z, ← mask_is) refl })
+    pub refused_bad : bad ≢ 0 → Leaves pr (create cat s c i v) b b (fill 32 (bad_parameter ∷ bytes 2 bad))
+    refused_bad n = rw answer (told pr b h (bad_parameter ∷ bytes 2 bad))
       where
-        answer : create cat s c i v ≡ (s, bad_parameter ∷ bytes 2 (mask (bad_in_create cat s c v)))
+        answer : create cat s c i v ≡ (s, bad_parameter ∷ bytes 2 bad)
         answer = unfold create create_results unless_refused first_that_applies in
-            rw (free, some_masked (bad_in_create cat s c v) (λ e. n (mask_is ∙ e))) refl
+            rw (free, some_masked (bad_in_create cat s c v) (λ e. n (mask_is ∙ e)), ← mask_is) refl
 
     module _ (fine : bad ≡ 0) where
       none_bad : empty (bad_in_create cat s c v) ≡ true
@@ -108,8 +106,8 @@ module _ (pr : Product) (b : List ℕ) (h : Sound pr b) (c i : ℕ) (lt : i < 65
 
       -- ---- no place is left
 
-      pub refused_full : place_count ≤ byte block in_use_at → (out : List ℕ) → out ≡ replicate 32 0 → Leaves pr (create cat s c i v) b b (set out 0 no_place)
-      refused_full g out z = rw answer (record { store = as_stored pr b h; reply = rw z refl })
+      pub refused_full : place_count ≤ byte block in_use_at → Leaves pr (create cat s c i v) b b (fill 32 (no_place ∷ []))
+      refused_full g = rw answer (told pr b h (no_place ∷ []))
         where
           full : leb cat.places (length t.created) ≡ true
           full = let m = places_are pr in let n = created_count pr b h in le-leb cat.places (length t.created) (omega arith)
@@ -158,10 +156,10 @@ module _ (pr : Product) (b : List ℕ) (h : Sound pr b) (c i : ℕ) (lt : i < 65
             not_full : (n m : ℕ) → m < n → leb n m ≡ false
             not_full n m g = cases (leb n m) (λ y. absurd (let z = leb_le n m y in omega arith)) (λ y. y)
 
-        pub accepted : {j : ℕ} {x : List ℕ} → j ≡ rank (key c i) (keys_in block) → x ≡ with_place j r' block → (out : List ℕ) → out ≡ replicate 32 0
-            → Leaves pr (create cat s c i v) b (put_mid live_at block_length b x) out
-        accepted e f out z = rw answer (record {
+        pub accepted : {j : ℕ} {x : List ℕ} → j ≡ rank (key c i) (keys_in block) → x ≡ with_place j r' block
+            → Leaves pr (create cat s c i v) b (put_mid live_at block_length b x) (replicate 32 0)
+        accepted e f = rw answer (record {
           store = ap (put_mid live_at block_length b) (f ∙ (λ d. with_place (e d) (is d) block) ∙ put_in)
               ∙ live_given_back pr b h (move_counter cat made) (move_counter_legal cat wf made made_legal);
-          reply = z;
+          reply = refl;
         })

@@ -1,5 +1,5 @@
 -- A new entry as the code lays it: the contents of the new instance, then those of the one that comes with it, then zeros.
-use Prim.Native.Nat.{ℕ, suc, ◌+◌, ◌≤◌, zero}
+use Prim.Native.Nat.{ℕ, suc, ◌+◌, ◌≤◌}
 use native.Mathlib.Nat.{zero-add, add-zero}
 use native.Mathlib.Omega.{arith}
 use mathlib.Core.Path.{◌≡◌, sym, ◌∙◌, ap, refl}
@@ -7,6 +7,7 @@ use mathlib.Core.Bool.{true}
 use mathlib.Core.List.{List, [], ◌∷◌, ◌++◌, map, append-nil, append_assoc}
 use lib.ListN.{length, take, drop, replicate, length-drop, length-replicate, length-append}
 use lib.Seq.{drop-drop, length-take-le}
+use Rattle.std.specs.Prelude.{Option, Some, None}
 use Rattle.rules.specs.Bytes.{laid, fill, bytes}
 use Rattle.rules.specs.Catalogue.{is_created, Catalogue, Class, leader, attribute, carried_numbers, size_of, stored_numbers, family, is_fixed, key}
 use Rattle.rules.specs.Commands.{carried_by, new_entry, cut, new_contents}
@@ -43,7 +44,7 @@ use Rattle.create_command.proofs.NewContents.{ShowsCarried, new_is_whole, new_is
 use Rattle.create_command.proofs.Others.{C_stored, stored_rise, carried_rise, other_is}
 
 -- as the code lays it, and as it is to be
-abbrev pub made : Product → ℕ → ℕ → List ℕ → List ℕ
+abbrev pub made : Product → ℕ → Option ℕ → List ℕ → List ℕ
 made pr c d v = with_companion pr d (with_carried pr c v) (with_others pr c (with_carried pr c v) (with_carried pr c v))
 
 abbrev pub expected : Product → ℕ → List ℕ → List ℕ
@@ -149,9 +150,9 @@ module _ (pr : Product) (c : ℕ) (cr : is_created (class_for pr c).creation ≡
 
     -- ---- and of the one that comes with it
 
-    module _ (d : ℕ) (q : Companion pr c (suc d)) where
+    module _ (d : ℕ) (q : Companion pr c (Some d)) where
       abbrev k' : Class
-      k' = class_for pr (suc d)
+      k' = class_for pr d
 
       abbrev new' : Contents
       new' = new_contents carried k'
@@ -161,24 +162,24 @@ module _ (pr : Product) (c : ℕ) (cr : is_created (class_for pr c).creation ≡
 
       under_whole' : Whole k' under'
       under_whole' =
-          let fit = inside_fits pr (suc d) in
+          let fit = inside_fits pr d in
           let at = companion_follows pr c cr d q in
           cut_is_whole k' rest (simp length-drop (omega arith))
 
       none_carried : (n : ℕ) → (attribute k' n).C ≡ true → content n under' ≡ content n carried
-      none_carried n e = true_false (C_is_created cat (well_formed_of pr) (suc d) n e) (companion_not_created pr c cr d q)
+      none_carried n e = true_false (C_is_created cat (well_formed_of pr) d n e) (companion_not_created pr c cr d q)
 
       companion_whole : Whole k' new'
-      companion_whole = new_is_whole pr (suc d) carried own own_length (led_shows (suc d) (companion_led pr c cr d q)) under' under_whole' none_carried
+      companion_whole = new_is_whole pr d carried own own_length (led_shows d (companion_led pr c cr d q)) under' under_whole' none_carried
 
-      companion_laid : with_others pr (suc d) own (contents_bytes new ++ rest) ≡ contents_bytes new ++ (contents_bytes new' ++ drop (contents_width k') rest)
+      companion_laid : with_others pr d own (contents_bytes new ++ rest) ≡ contents_bytes new ++ (contents_bytes new' ++ drop (contents_width k') rest)
       unfolding with_others
       companion_laid =
-          let at : inside cat (suc d) ≡ length (contents_bytes new) + 0 = companion_follows pr c cr d q ∙ sym (whole_length k new new_whole) ∙ sym (add-zero (length (contents_bytes new))) in
-          let others = firsts k' (leading_class pr (suc d)) own (other_numbers k') in
+          let at : inside cat d ≡ length (contents_bytes new) + 0 = companion_follows pr c cr d q ∙ sym (whole_length k new new_whole) ∙ sym (add-zero (length (contents_bytes new))) in
+          let others = firsts k' (leading_class pr d) own (other_numbers k') in
           rw (at, ← values_behind k' 0 others (contents_bytes new) rest)
           (ap (λ (x : List ℕ). contents_bytes new ++ x) (ap (laid_values k' 0 others) (begins_with_its_cut k' rest)
-          ∙ new_is_laid pr (suc d) carried own own_length (led_shows (suc d) (companion_led pr c cr d q)) under' under_whole' none_carried (drop (contents_width k') rest)))
+          ∙ new_is_laid pr d carried own own_length (led_shows d (companion_led pr c cr d q)) under' under_whole' none_carried (drop (contents_width k') rest)))
 
   -- ---- the entry: one after the other
 
@@ -230,27 +231,27 @@ module _ (pr : Product) (c : ℕ) (cr : is_created (class_for pr c).creation ≡
   unfolding with_carried
   carried_fills = own_length blank blank_length
 
-  pub is_made : (d : ℕ) → Companion pr c d → made pr c d v ≡ expected pr c v
+  pub is_made : (d : Option ℕ) → Companion pr c d → made pr c d v ≡ expected pr c v
   unfolding with_carried each entry_bytes gather
-  is_made zero q =
+  is_made None q =
       let x : List ℕ = contents_bytes new in
       let fit = contents_fit pr c in
       let lx : length x ≡ contents_width k = whole_length k new (new_whole blank blank_length) in
       let entry : entry_bytes (new_entry cat c carried) ≡ x = entry_is ∙ ap (λ (l : List ℕ). x ++ of_classes l) (sym q) ∙ append-nil x in
       new_laid blank blank_length ∙ ap (λ (n : ℕ). x ++ drop n blank) (sym lx) ∙ zeros_behind place_width x (omega arith) ∙ ap (fill place_width) (sym entry)
-  is_made (suc d) q =
+  is_made (Some d) q =
       let x : List ℕ = contents_bytes new in
-      let y : List ℕ = contents_bytes (new_contents carried (class_for pr (suc d))) in
+      let y : List ℕ = contents_bytes (new_contents carried (class_for pr d)) in
       let n : ℕ = contents_width k in
-      let m : ℕ = contents_width (class_for pr (suc d)) in
-      let fit = inside_fits pr (suc d) in
+      let m : ℕ = contents_width (class_for pr d) in
+      let fit = inside_fits pr d in
       let at = companion_follows pr c cr d q in
       let lx : length x ≡ n = whole_length k new (new_whole blank blank_length) in
-      let ly : length y ≡ m = whole_length (class_for pr (suc d)) (new_contents carried (class_for pr (suc d))) (companion_whole blank blank_length d q) in
+      let ly : length y ≡ m = whole_length (class_for pr d) (new_contents carried (class_for pr d)) (companion_whole blank blank_length d q) in
       let lxy : n + m ≡ length (x ++ y) = rw (length-append x y, lx, ly) refl in
       let entry : entry_bytes (new_entry cat c carried) ≡ x ++ y =
       entry_is ∙ ap (λ (l : List ℕ). x ++ of_classes l) (sym q) ∙ ap (λ (z : List ℕ). x ++ z) (append-nil y) in
-      ap (with_others pr (suc d) (own blank blank_length)) (new_laid blank blank_length)
+      ap (with_others pr d (own blank blank_length)) (new_laid blank blank_length)
       ∙ companion_laid blank blank_length d q
       ∙ sym (append_assoc x y (drop m (drop n blank)))
       ∙ ap (λ (z : List ℕ). (x ++ y) ++ z) (drop-drop m n blank)

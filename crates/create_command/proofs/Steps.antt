@@ -1,17 +1,16 @@
 -- What each function's calls need, and what they leave together.
-use Prim.Native.Nat.{ℕ, zero, suc, ◌-◌, ◌≤◌, ◌<◌}
+use Prim.Native.Nat.{ℕ, suc, ◌-◌, ◌≤◌, ◌<◌}
 use native.Mathlib.Omega.{arith}
-use mathlib.Core.Path.{◌≡◌, refl, sym, ◌∙◌, ap}
+use mathlib.Core.Path.{◌≡◌, sym, ◌∙◌, ap}
 use mathlib.Core.Bool.{true}
-use mathlib.Core.Logic.{◌≢◌}
 use mathlib.Core.List.{List, [], ◌∷◌, ◌++◌, append-nil}
-use lib.ListN.{length, take, drop, replicate, set}
+use lib.ListN.{length, take, drop, replicate}
 use lib.Bits.{bit_and}
 use borrow.Rule.Slice.PartMut.{put_mid}
+use Rattle.std.specs.Prelude.{Option, Some, None}
 use Rattle.rules.specs.Bytes.{byte, bytes, fill, laid}
 use Rattle.rules.specs.Catalogue.{Class, size_of, stored_numbers, carried_numbers, is_created, key}
 use Rattle.rules.specs.Masks.{named, mask, total}
-use Rattle.rules.specs.Messages.{bad_parameter}
 use Rattle.rules.specs.State.{Entry, class_of, number_of}
 use Rattle.rules.proofs.Standing.{key_class, key_number}
 use Rattle.octets.proofs.Laid.{laid_all}
@@ -70,25 +69,21 @@ module _ (pr : Product) (c : ℕ) (v : List ℕ) (long : length v ≡ 32) where
     pub carried_long : length own ≡ place_width
     carried_long = ap length carried_laid ∙ carried_fills pr c cr v long
 
-    module _ {c₀ c₁ : List ℕ} (d : ℕ) (z : c₀ ≡ replicate place_width 0) (first : c₁ ≡ laid 0 own c₀) (q : Companion pr c d) where
+    module _ {c₀ c₁ : List ℕ} (z : c₀ ≡ replicate place_width 0) (first : c₁ ≡ laid 0 own c₀) where
       copied_whole : c₁ ≡ own
       copied_whole = first ∙ laid_all own c₀ (carried_long ∙ sym (ap length z))
 
       so_far : c₁ ≡ with_others pr c (with_carried pr c v) (with_carried pr c v)
       so_far = copied_whole ∙ carried_laid ∙ sym (nothing_beside pr c cr v long (with_carried pr c v) (with_carried pr c v))
 
-      with_all : with_companion pr d own c₁ ≡ expected pr c v
-      with_all = (λ i. with_companion pr d (carried_laid i) (so_far i)) ∙ is_made pr c cr v long d q
+      with_all : (d : Option ℕ) → Companion pr c d → with_companion pr d own c₁ ≡ expected pr c v
+      with_all d q = (λ i. with_companion pr d (carried_laid i) (so_far i)) ∙ is_made pr c cr v long d q
 
-      pub made_alone : d ≡ 0 → c₁ ≡ expected pr c v
-      made_alone e = sym (ap (λ (x : ℕ). with_companion pr x own c₁) e) ∙ with_all
+      pub made_alone : Companion pr c None → c₁ ≡ expected pr c v
+      made_alone q = with_all None q
 
-      one_more : (x : ℕ) → x ≢ 0 → with_others pr x own c₁ ≡ with_companion pr x own c₁
-      one_more zero n = absurd (n refl)
-      one_more (suc x) n = refl
-
-      pub made_with : d ≢ 0 → {c₂ : List ℕ} → c₂ ≡ with_others pr d own c₁ → c₂ ≡ expected pr c v
-      made_with n g = g ∙ one_more d n ∙ with_all
+      pub made_with : (d : ℕ) → Companion pr c (Some d) → {c₂ : List ℕ} → c₂ ≡ with_others pr d own c₁ → c₂ ≡ expected pr c v
+      made_with d q g = g ∙ with_all (Some d) q
 
 -- ---- a new place
 
@@ -130,10 +125,3 @@ rank_small k b e =
 pub put_in_is : (j : ℕ) (r b : List ℕ) {x y : List ℕ} → x ≡ laid in_use_at (suc (byte b in_use_at) ∷ []) (inserted (place_at j) r b) → y ≡ moved_on x → y ≡ with_place j r b
 unfolding with_place
 put_in_is j r b f g = g ∙ ap moved_on f
-
--- ---- the reply with the bad bits
-
-pub reply_long : (out : List ℕ) (m : ℕ) {x : List ℕ} → out ≡ replicate 32 0 → x ≡ take 1 (set out 0 bad_parameter) ++ (bytes 2 m ++ drop 3 (set out 0 bad_parameter))
-    → length x ≡ length out
-unfolding bytes
-reply_long out m z e = ap length (e ∙ ap (λ (o : List ℕ). take 1 (set o 0 bad_parameter) ++ (bytes 2 m ++ drop 3 (set o 0 bad_parameter))) z) ∙ sym (ap length z)

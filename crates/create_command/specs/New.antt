@@ -1,5 +1,5 @@
 -- A new instance's bytes, what is bad in a Create, and a live table's bytes with one place more.
-use Rattle.std.specs.Prelude.{ℕ, zero, suc, not, List, [], ◌∷◌, ◌++◌, drop, replicate}
+use Rattle.std.specs.Prelude.{ℕ, suc, not, Option, Some, None, List, [], ◌∷◌, ◌++◌, drop, replicate}
 use Rattle.rules.specs.Maps.{among, those}
 use Rattle.rules.specs.Bytes.{byte, laid}
 use Rattle.rules.specs.Masks.{total}
@@ -29,10 +29,10 @@ with_others pr c own b =
 unfoldable pub with_carried : Product → ℕ → List ℕ → List ℕ
 with_carried pr c v = laid_values (class_for pr c) 0 (carried_by (class_for pr c) v) (replicate place_width 0)
 
--- the first contents of the class that comes with it; 0 stands for none
-abbrev pub with_companion : Product → ℕ → List ℕ → List ℕ → List ℕ
-with_companion pr zero own b = b
-with_companion pr (suc d) own b = with_others pr (suc d) own b
+-- the first contents of the class that comes with it, if one does
+abbrev pub with_companion : Product → Option ℕ → List ℕ → List ℕ → List ℕ
+with_companion pr None own b = b
+with_companion pr (Some d) own b = with_others pr d own b
 
 -- ---- what is bad in a Create
 

@@ -1,4 +1,6 @@
 // Create: a new instance of a created class, with those that come with it.
+#![tactic(auto)]
+
 ghost use Rattle.std.specs.Prelude.{◌≡◌, true, false, ◌<◌, ◌≤◌, length, replicate};
 ghost use Rattle.rules.specs.Bytes.{byte, fill};
 ghost use Rattle.rules.specs.Masks.{mask};
@@ -11,10 +13,11 @@ ghost use Rattle.class_tables.specs.Built.{cat_of, class_for};
 ghost use Rattle.table.specs.Places.{InShape, keys_in};
 ghost use Rattle.table.specs.Spots.{rank};
 ghost use Rattle.sound_store.specs.Held.{state_in, Sound, Leaves};
+ghost use Rattle.outcome.specs.Refusals.{contents_of};
 ghost use Rattle.create_command.specs.New.{with_others, unkept_bad, bad_carried, with_place};
 
 use class_tables::{Product, classes, masks, sizes};
-use outcome::{BAD_PARAMETER, INSTANCE_EXISTS, NO_PLACE};
+use outcome::refusals::Refusal;
 use store::layout::{ENTRY, KEY, LIVE_AT, LIVE_END, PLACE, PLACE_COUNT};
 use table::counter;
 
@@ -47,8 +50,7 @@ fn new_contents(c: &mut [u8], product: Product, class: u16, v: &[u8])
     let size = sizes::carried_size(product, class);
     octets::copy_in(&mut own, 0, &v[0..size]);
     octets::copy_in(c, 0, &own);
-    let companion = classes::companion_of(product, class);
-    if companion != 0 {
+    if let Some(companion) = classes::companion_of(product, class) {
         lay_others(c, product, companion, &own);
     }
 }
@@ -68,10 +70,9 @@ fn unkept_bit(product: Product, class: u16, v: &[u8]) -> u16
     requires { length v.now ≡ 32 }
     ensures { result ≡ mask (unkept_bad (class_for product class) v.now) }
 {
-    let u = classes::unkept(product, class);
-    if u.number == 0 {
+    let Some(u) = classes::unkept(product, class) else {
         return 0;
-    }
+    };
     let from = sizes::carried_size(product, class);
     let to = from + u.size;
     if octets::zeros(&v[from..to]) {
@@ -107,38 +108,42 @@ fn create_absent(
     class: u16,
     number: u16,
     v: &[u8],
-    out: &mut [u8],
-)
-    requires { Sound product store.old × (is_created (class_for product class).creation ≡ true) × (length v.now ≡ 32) × (out.old ≡ replicate 32 0)
+) -> Result<(), Refusal>
+    requires { Sound product store.old × (is_created (class_for product class).creation ≡ true) × (length v.now ≡ 32)
         × (holds (cat_of product) (state_in product store.old).table class number ≡ false)
         × (j ≡ rank (key class number) (keys_in (part live_at block_length store.old))) }
-    ensures { Leaves product (create (cat_of product) (state_in product store.old) class number v.now) store.old store.new out.new }
+    ensures { Leaves product (create (cat_of product) (state_in product store.old) class number v.now)
+        store.old store.new (contents_of result (replicate 32 0)) }
 {
     let mut r = [0u8; PLACE];
     new_place(&mut r, product, class, number, v);
     let bad = bad_in_create(&store[LIVE_AT..LIVE_END], product, class, v, &r);
     if bad != 0 {
-        out[0] = BAD_PARAMETER;
-        octets::put_number(out, 1, bad);
-        return;
+        return Err(Refusal::BadValues(bad));
     }
     if table::in_use(&store[LIVE_AT..LIVE_END]) >= PLACE_COUNT {
-        out[0] = NO_PLACE;
-        return;
+        return Err(Refusal::NoPlace);
     }
     put_in(&mut store[LIVE_AT..LIVE_END], j, &r);
+    Ok(())
 }
 
 // Answers a Create of an instance of a created class. One search tells whether it is there, and where it would be put.
-pub fn create(store: &mut [u8], product: Product, class: u16, number: u16, v: &[u8], out: &mut [u8])
-    requires { Sound product store.old × (is_created (class_for product class).creation ≡ true) × (length v.now ≡ 32) × (out.old ≡ replicate 32 0) }
-    ensures { Leaves product (create (cat_of product) (state_in product store.old) class number v.now) store.old store.new out.new }
+pub fn create(
+    store: &mut [u8],
+    product: Product,
+    class: u16,
+    number: u16,
+    v: &[u8],
+) -> Result<(), Refusal>
+    requires { Sound product store.old × (is_created (class_for product class).creation ≡ true) × (length v.now ≡ 32) }
+    ensures { Leaves product (create (cat_of product) (state_in product store.old) class number v.now)
+        store.old store.new (contents_of result (replicate 32 0)) }
 {
     let key = octets::key_of(class, number);
     let j = table::rank_of(&store[LIVE_AT..LIVE_END], key);
     if table::has_key(&store[LIVE_AT..LIVE_END], key, j) {
-        out[0] = INSTANCE_EXISTS;
-        return;
+        return Err(Refusal::InstanceExists);
     }
-    create_absent(store, j, product, class, number, v, out);
+    create_absent(store, j, product, class, number, v)
 }

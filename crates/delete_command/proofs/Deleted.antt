@@ -5,10 +5,10 @@ use mathlib.Core.Path.{◌≡◌, refl, sym, ◌∙◌, ap}
 use mathlib.Core.Bool.{true}
 use mathlib.Core.Option.{Option, none, some}
 use mathlib.Core.List.{List, [], ◌∷◌}
-use lib.ListN.{length, replicate, set}
+use lib.ListN.{length, replicate}
 use borrow.Rule.Slice.PartMut.{put_mid}
 use Rattle.rules.specs.Maps.{Map, is_some, keys, remove, first_that_applies}
-use Rattle.rules.specs.Bytes.{byte, laid}
+use Rattle.rules.specs.Bytes.{byte, laid, fill}
 use Rattle.rules.specs.Catalogue.{Catalogue, is_created, key}
 use Rattle.rules.specs.State.{Table, Alarms, State, holds, with_table, with_alarms}
 use Rattle.rules.specs.Messages.{done, unknown_instance, unless_refused}
@@ -19,7 +19,9 @@ use Rattle.store.specs.Layout.{place_length, live_bytes, place_at, live_at, bloc
 use Rattle.legality.proofs.Tables.{LegalLive, delete_legal}
 use Rattle.legality.proofs.Counter.{move_counter_legal}
 use Rattle.legality.proofs.LegalStates.{open_state}
+use Rattle.std.specs.declared.option.Option as found
 use Rattle.class_tables.specs.Built.{cat_of, class_for}
+use Rattle.class_tables.specs.Finding.{found_of}
 use Rattle.class_tables.proofs.EveryProduct.{well_formed_of, fits_of}
 use Rattle.store.specs.Positions.{position}
 use Rattle.table.specs.Spots.{removed}
@@ -28,7 +30,7 @@ use Rattle.octets.proofs.Parted.{part}
 use Rattle.store.proofs.Positions.{position_among, stands_at}
 use Rattle.table.proofs.TableMoved.{remove_moved}
 use Rattle.sound_store.specs.Held.{state_in, Sound, stored, Leaves}
-use Rattle.sound_store.proofs.Held.{live_is, live_held, live_opened, refused_with}
+use Rattle.sound_store.proofs.Held.{live_is, live_held, live_opened, told}
 use Rattle.table.specs.Counts.{moved_on}
 use Rattle.table.proofs.Counted.{counter_moved}
 use Rattle.store.proofs.AlarmsStay.{alarms_left}
@@ -59,6 +61,10 @@ module _ (pr : Product) (b : List ℕ) (h : Sound pr b) (c i : ℕ) (lt : i < 65
   abbrev sought : Option ℕ
   sought = position (key c i) (keys_in block)
 
+  -- what the code found by this key
+  pub as_found : {k : ℕ} {found o : found.Option ℕ} → k ≡ key c i → found_of found ≡ position k (keys_in block) → found ≡ o → sought ≡ found_of o
+  as_found is p e = ap (λ (k : ℕ). position k (keys_in block)) (sym is) ∙ sym p ∙ ap found_of e
+
   held_if_found : {o : Option ℕ} → sought ≡ o → holds cat s.table c i ≡ is_some o
   held_if_found p = made_held pr block s.table (live_held pr b h) c i lt cr ∙ ap is_some p
 
@@ -68,8 +74,8 @@ module _ (pr : Product) (b : List ℕ) (h : Sound pr b) (c i : ℕ) (lt : i < 65
   unfolding delete delete_results unless_refused first_that_applies
   refusal p = rw (held_if_found p) refl
 
-  pub refused : sought ≡ none → (out : List ℕ) → out ≡ replicate 32 0 → Leaves pr (delete cat s c i) b b (set out 0 unknown_instance)
-  refused p out z = rw (refusal p) (refused_with pr b h unknown_instance out z)
+  pub refused : sought ≡ none → Leaves pr (delete cat s c i) b b (fill 32 (unknown_instance ∷ []))
+  refused p = rw (refusal p) (told pr b h (unknown_instance ∷ []))
 
   -- ---- it is there
 
@@ -110,10 +116,10 @@ module _ (pr : Product) (b : List ℕ) (h : Sound pr b) (c i : ℕ) (lt : i < 65
     unfolding delete delete_results unless_refused first_that_applies
     deletion = rw (held_if_found p) refl
 
-    pub deleted : (out : List ℕ) → out ≡ replicate 32 0 → Leaves pr (delete cat s c i) b (put_mid live_at block_length b (without_place j block)) out
-    deleted out z = rw deletion (record {
+    pub deleted : Leaves pr (delete cat s c i) b (put_mid live_at block_length b (without_place j block)) (replicate 32 0)
+    deleted = rw deletion (record {
       store = ap (put_mid live_at block_length b) taken_out
           ∙ live_given_back pr b h (move_counter cat left) (move_counter_legal cat wf left left_legal)
           ∙ ap (λ (u : State). stored pr u b) (sym table_alone);
-      reply = z;
+      reply = refl;
     })

@@ -24,12 +24,14 @@ use Rattle.class_tables.specs.Built.{cat_of, product_of, Names, named_catalogue}
 use Rattle.class_tables.proofs.EveryProduct.{product_found, well_formed_of, fits_of}
 use Rattle.sound_store.specs.Held.{state_in, stored}
 use Rattle.engine.specs.Entering.{first_drops, Enters, Opened}
-use Rattle.outcome.specs.declared.Outcome.TheVariants.{Dropped}
-use Rattle.engine.specs.declared.Entry.TheVariants as entry
+use Rattle.std.specs.Prelude.{Result, Ok, Err}
+use Rattle.message_frame.specs.Drops.{drop_number}
+use Rattle.message_frame.specs.declared.drops.DropReason.{DropReason}
+use Rattle.message_frame.specs.declared.drops.DropReason.TheVariants as reason
 use Rattle.outcome.specs.Outcomes.{left_by, leaves}
+use Rattle.outcome.specs.declared.Outcome.{Outcome}
 use Rattle.class_tables.specs.declared.Product.{Product}
-use Rattle.class_tables.specs.declared.Named.{Named}
-use Rattle.class_tables.specs.declared.Named.TheVariants.{Is, Nothing}
+use Rattle.class_tables.specs.declared.NotBuilt.{NotBuilt}
 use native.Mathlib.Omega.{arith}
 
 -- ---- a sound store, and the product that its first byte names
@@ -56,7 +58,7 @@ sound_long b h = go (decode built_products b) refl
     go none e = true_false h (ap is_some e)
     go (some k) e = (sound_is_an_encoding built_products b k e).3
 
-module _ (b : List ℕ) (h : sound built_products b ≡ true) {r : Named} (names : Names (byte b 0) r) where
+module _ (b : List ℕ) (h : sound built_products b ≡ true) {r : Result Product NotBuilt} (names : Names (byte b 0) r) where
   -- the product that it was encoded for
   its_product : (k : Held) → decode built_products b ≡ some k → byte b 0 ≡ k.product
   its_product k e =
@@ -68,7 +70,7 @@ module _ (b : List ℕ) (h : sound built_products b ≡ true) {r : Named} (names
   its_catalogue : (k : Held) → decode built_products b ≡ some k → named_catalogue r ≡ some k.catalogue
   its_catalogue k e = names.found ∙ ap (λ (p : ℕ). find p built_products) (its_product k e) ∙ (sound_is_an_encoding built_products b k e).0
 
-  pub opened_as : (pr : Product) → r ≡ Is pr → Opened pr b
+  pub opened_as : (pr : Product) → r ≡ Ok pr → Opened pr b
   unfolding sound
   opened_as pr is = go (decode built_products b) refl
     where
@@ -80,7 +82,7 @@ module _ (b : List ℕ) (h : sound built_products b ≡ true) {r : Named} (names
           read_as k.product k.catalogue k.state b pr (names.its_number pr is ∙ its_product k e) same d.1 d.2 d.3 e
 
   -- every sound store names one
-  pub is_named : {A : Type 0} → r ≡ Nothing → A
+  pub is_named : {A : Type 0} {e : NotBuilt} → r ≡ Err e → A
   unfolding sound
   is_named {A = A} is = go (decode built_products b) refl
     where
@@ -91,25 +93,25 @@ module _ (b : List ℕ) (h : sound built_products b ≡ true) {r : Named} (names
 -- ---- what a call finds first
 
 module _ (room : ℕ) (b : List ℕ) where
-  pub no_room : room < reply_length → Enters room b (entry.Dropped 1)
+  pub no_room : room < reply_length → Enters room b (Err reason.ShortReply)
   unfolding first_that_applies
   no_room h = record {
-    dropped = λ n e. let z : 1 ≡ n = cc in rw (lt-ltb room reply_length h) (ap some z);
-    has_room = λ pr e. absurd (let z : ◌≡◌ {A = ℕ} 0 1 = cc in omega arith);
-    opened = λ pr e. absurd (let z : ◌≡◌ {A = ℕ} 0 1 = cc in omega arith);
+    dropped = λ d e. let z : reason.ShortReply ≡ d = cc in rw (lt-ltb room reply_length h) (ap (λ (x : DropReason). some (drop_number x)) z);
+    has_room = λ pr e. cc;
+    opened = λ pr e. cc;
   }
 
-  pub not_sound : reply_length ≤ room → sound built_products b ≡ false → Enters room b (entry.Dropped 2)
+  pub not_sound : reply_length ≤ room → sound built_products b ≡ false → Enters room b (Err reason.UnsoundStore)
   unfolding first_that_applies
   not_sound h u = record {
-    dropped = λ n e. let z : 2 ≡ n = cc in rw (le-ltb room reply_length h, u) (ap some z);
-    has_room = λ pr e. absurd (let z : ◌≡◌ {A = ℕ} 0 1 = cc in omega arith);
-    opened = λ pr e. absurd (let z : ◌≡◌ {A = ℕ} 0 1 = cc in omega arith);
+    dropped = λ d e. let z : reason.UnsoundStore ≡ d = cc in rw (le-ltb room reply_length h, u) (ap (λ (x : DropReason). some (drop_number x)) z);
+    has_room = λ pr e. cc;
+    opened = λ pr e. cc;
   }
 
-  pub enters : reply_length ≤ room → (pr : Product) → Opened pr b → Enters room b (entry.To pr)
+  pub enters : reply_length ≤ room → (pr : Product) → Opened pr b → Enters room b (Ok pr)
   enters h pr o = record {
-    dropped = λ n e. cc;
+    dropped = λ d e. cc;
     has_room = λ q e. h;
     opened = λ q e. let z : pr ≡ q = cc in subst (λ (x : Product). Opened x b) z o;
   }
@@ -117,16 +119,17 @@ module _ (room : ℕ) (b : List ℕ) where
 -- ---- and what it then does
 
 module _ (c : Call) (b buffer : List ℕ) where
-  pub first_dropped : {n : ℕ} → first_that_applies (first_drops (length buffer) b) ≡ some n → left_by (Dropped n) b buffer ≡ enter built_products c b buffer
+  pub first_dropped : {d : DropReason} → first_that_applies (first_drops (length buffer) b) ≡ some (drop_number d) → {r : Result Outcome DropReason} → r ≡ Err d
+      → left_by r b buffer ≡ enter built_products c b buffer
   unfolding enter refuse sound first_that_applies
-  first_dropped {n = n} e = cases (ltb (length buffer) reply_length)
-      (λ y. let z : 1 ≡ n = some_eq (rw y at e) in rw (← z, y) refl)
-      (λ y. go (decode built_products b) refl (rw y at e) y)
+  first_dropped {d} e is = rw is (cases (ltb (length buffer) reply_length)
+      (λ y. let z : 1 ≡ drop_number d = some_eq (rw y at e) in rw (← z, y) refl)
+      (λ y. go (decode built_products b) refl (rw y at e) y))
     where
-      go : (o : Option Held) → decode built_products b ≡ o → first_that_applies ((not (is_some (decode built_products b)), 2) ∷ []) ≡ some n
-          → ltb (length buffer) reply_length ≡ false → left_by (Dropped n) b buffer ≡ enter built_products c b buffer
-      go none d f y = let z : 2 ≡ n = some_eq (rw d at f) in rw (← z, y, d) refl
-      go (some k) d f y = none_some (rw d at f)
+      go : (o : Option Held) → decode built_products b ≡ o → first_that_applies ((not (is_some (decode built_products b)), 2) ∷ []) ≡ some (drop_number d)
+          → ltb (length buffer) reply_length ≡ false → left_by (Err d) b buffer ≡ enter built_products c b buffer
+      go none q f y = let z : 2 ≡ drop_number d = some_eq (rw q at f) in rw (← z, y, q) refl
+      go (some k) q f y = none_some (rw q at f)
 
   -- none does: the call does what it does to the state
   pub taken_in : (pr : Product) → reply_length ≤ length buffer → Opened pr b
@@ -142,13 +145,13 @@ module _ (b : List ℕ) where
   too_short p h = rw (lt-ltb (length b) store_length h) refl
 
   module _ (long : store_length ≤ length b) where
-    pub no_product : (p : ℕ) {r : Named} → Names p r → r ≡ Nothing → (some 12, b) ≡ power_on built_products p b
+    pub no_product : (p : ℕ) {r : Result Product NotBuilt} → {e : NotBuilt} → Names p r → r ≡ Err e → (some 12, b) ≡ power_on built_products p b
     unfolding power_on
     no_product p names e =
         let none_found : find p built_products ≡ none = sym names.found ∙ ap named_catalogue e in
         rw (le-ltb (length b) store_length long, none_found) refl
 
-    pub fresh_one : (p : ℕ) {r : Named} → Names p r → (pr : Product) → r ≡ Is pr → (after : List ℕ) → after ≡ stored pr (fresh (cat_of pr)) b
+    pub fresh_one : (p : ℕ) {r : Result Product NotBuilt} → Names p r → (pr : Product) → r ≡ Ok pr → (after : List ℕ) → after ≡ stored pr (fresh (cat_of pr)) b
         → (none, after) ≡ power_on built_products p b
     unfolding power_on stored
     fresh_one p names pr e after f =

@@ -10,6 +10,8 @@ use contract.Lifetimes.{Lfts}
 use denote.Triple.Entry.{Args, Res}
 use denote.Triple.Clauses.{Ended, Lasts, AtExit, at_exit}
 use Rattle.store.specs.Entries.{Left}
+use Rattle.std.specs.Prelude.{Result}
+use Rattle.message_frame.specs.declared.drops.DropReason.{DropReason}
 use Rattle.outcome.specs.declared.Outcome.{Outcome}
 use Rattle.outcome.specs.Outcomes.{left_by}
 use Rattle.engine.proofs.OneOutcome.{only_one, started_coded, started_back}
@@ -44,7 +46,7 @@ handle_fixes_the_outcome = record {
 }
 
 -- of a report: its store and its reply buffer, and nothing of the four values between them
-of_a_report : {x : Left} (r r' : Outcome) (last last' : List ℕ × (Unit {0} × (Unit {0} × (Unit {0} × (Unit {0} × (List ℕ × Unit {0}))))))
+of_a_report : {x : Left} (r r' : Result Outcome DropReason) (last last' : List ℕ × (Unit {0} × (Unit {0} × (Unit {0} × (Unit {0} × (List ℕ × Unit {0}))))))
     → left_by r last.0 last.1.1.1.1.1.0 ≡ x → left_by r' last'.0 last'.1.1.1.1.1.0 ≡ x → (r ≡ r') × (last ≡ last')
 of_a_report r r' last last' e f =
     let same = only_one _ r r' last.0 last'.0 last.1.1.1.1.1.0 last'.1.1.1.1.1.0 e f in

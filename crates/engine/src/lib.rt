@@ -1,5 +1,7 @@
 // The entries of the engine: for every input one outcome, one store and one reply buffer, those that the rules name.
-ghost use Rattle.std.specs.Prelude.{◌≡◌, ◌≤◌, length};
+#![tactic(auto)]
+
+ghost use Rattle.std.specs.Prelude.{◌≡◌, ◌≤◌, length, Ok};
 ghost use Rattle.rules.specs.Run.{message, attribute_report, alarm_report, answer_anew, handle};
 ghost use Rattle.rules.specs.Products.{built_products};
 ghost use Rattle.store.specs.Entries.{enter, power_on};
@@ -8,14 +10,15 @@ ghost use Rattle.sound_store.specs.Held.{state_in, Sound};
 ghost use Rattle.outcome.specs.Outcomes.{left_by, leaves, started_of};
 ghost use Rattle.engine.specs.Entering.{Enters};
 
-use class_tables::{Named, Product, built};
-use outcome::{Outcome, Started};
+use class_tables::Product;
+use message_frame::drops::DropReason;
+use outcome::Outcome;
 use store::layout::{MEMORY_AT, MEMORY_END, PRODUCT, REPLY, STORE};
 
 // Answers a command that is no repeat, and remembers it.
 fn answer_anew(store: &mut [u8], product: Product, m: &[u8], reply: &mut [u8])
     requires { Sound product store.old × (length m.now ≡ 48) × (48 ≤ length reply.old) }
-    ensures { left_by Outcome.Answered store.new reply.new
+    ensures { left_by (Ok Outcome.Answered) store.new reply.new
         ≡ leaves product (state_in product store.old) store.old reply.old
         (answer_anew (cat_of product) (state_in product store.old) m.now) }
 {
@@ -36,58 +39,44 @@ fn answer_anew(store: &mut [u8], product: Product, m: &[u8], reply: &mut [u8])
 }
 
 // What a message does to a sound store.
-fn take_message(store: &mut [u8], product: Product, m: &[u8], reply: &mut [u8]) -> Outcome
+fn take_message(
+    store: &mut [u8],
+    product: Product,
+    m: &[u8],
+    reply: &mut [u8],
+) -> Result<Outcome, DropReason>
     requires { Sound product store.old × (48 ≤ length reply.old) }
     ensures { left_by result store.new reply.new
         ≡ leaves product (state_in product store.old) store.old reply.old (handle (cat_of product) (state_in product store.old) m.now) }
 {
-    let code = message_frame::message_drop(m);
-    if code != 0 {
-        return Outcome::Dropped(code);
-    }
+    message_frame::message_drop(m)?;
     if remembered_command::is_repeat(&store[MEMORY_AT..MEMORY_END], m) {
         remembered_command::recall(&store[MEMORY_AT..MEMORY_END], reply);
     } else {
         answer_anew(store, product, m, reply);
     }
-    Outcome::Answered
+    Ok(Outcome::Answered)
 }
 
-// What a call finds before anything else.
-#[derive(Clone, Copy)]
-pub enum Entry {
-    // room for a reply, and a sound store of this product
-    To(Product),
-    // a drop
-    Dropped(u8),
-}
-
-// What every call begins with: drops 1 and 2, and the product whose store it is.
-fn begin(store: &[u8], room: usize) -> Entry
+// What every call begins with: room for a reply, and a sound store; the product is the one whose store it is.
+fn begin(store: &[u8], room: usize) -> Result<Product, DropReason>
     ensures { Enters room store.now result }
 {
     if room < REPLY {
-        return Entry::Dropped(1);
+        return Err(DropReason::ShortReply);
     }
     if !soundness::store_ok(store) {
-        return Entry::Dropped(2);
+        return Err(DropReason::UnsoundStore);
     }
-    let named = built::product_at(store[PRODUCT]);
-    match named {
-        Named::Is(product) => Entry::To(product),
-        Named::Nothing => Entry::Dropped(2),
-    }
+    Product::try_from(store[PRODUCT]).map_err(|_| DropReason::UnsoundStore)
 }
 
 // A message from the exchange.
-pub fn handle(store: &mut [u8], m: &[u8], reply: &mut [u8]) -> Outcome
+pub fn handle(store: &mut [u8], m: &[u8], reply: &mut [u8]) -> Result<Outcome, DropReason>
     ensures { left_by result store.new reply.new ≡ enter built_products (message m.now) store.old reply.old }
 {
-    let entry = begin(store, reply.len());
-    match entry {
-        Entry::To(product) => take_message(store, product, m, reply),
-        Entry::Dropped(code) => Outcome::Dropped(code),
-    }
+    let product = begin(store, reply.len())?;
+    take_message(store, product, m, reply)
 }
 
 // A local report that an attribute has a new content.
@@ -98,17 +87,12 @@ pub fn report_attribute(
     attribute: u8,
     content: &[u8],
     reply: &mut [u8],
-) -> Outcome
+) -> Result<Outcome, DropReason>
     ensures { left_by result store.new reply.new
         ≡ enter built_products (attribute_report class number attribute content.now) store.old reply.old }
 {
-    let entry = begin(store, reply.len());
-    match entry {
-        Entry::To(product) => attribute_report::report_attribute(
-            store, product, class, number, attribute, content, reply,
-        ),
-        Entry::Dropped(code) => Outcome::Dropped(code),
-    }
+    let product = begin(store, reply.len())?;
+    attribute_report::report_attribute(store, product, class, number, attribute, content, reply)
 }
 
 // A local report that an alarm is raised or cleared.
@@ -119,31 +103,21 @@ pub fn report_alarm(
     alarm: u8,
     on: bool,
     reply: &mut [u8],
-) -> Outcome
+) -> Result<Outcome, DropReason>
     ensures { left_by result store.new reply.new ≡ enter built_products (alarm_report class number alarm on) store.old reply.old }
 {
-    let entry = begin(store, reply.len());
-    match entry {
-        Entry::To(product) => alarm_report::report_alarm(
-            store, product, class, number, alarm, on, reply,
-        ),
-        Entry::Dropped(code) => Outcome::Dropped(code),
-    }
+    let product = begin(store, reply.len())?;
+    alarm_report::report_alarm(store, product, class, number, alarm, on, reply)
 }
 
 // The fresh state of the product that a number names.
-pub fn power_on(store: &mut [u8], product: u8) -> Started
+pub fn power_on(store: &mut [u8], product: u8) -> Result<(), DropReason>
     ensures { (started_of result, store.new) ≡ power_on built_products product store.old }
 {
     if store.len() < STORE {
-        return Started::Dropped(2);
+        return Err(DropReason::UnsoundStore);
     }
-    let named = built::product_at(product);
-    match named {
-        Named::Is(p) => {
-            reset_command::write_fresh(store, p);
-            Started::Fresh
-        }
-        Named::Nothing => Started::Dropped(12),
-    }
+    let built = Product::try_from(product).map_err(|_| DropReason::NotReported)?;
+    reset_command::write_fresh(store, built);
+    Ok(())
 }

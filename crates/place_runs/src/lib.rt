@@ -1,33 +1,18 @@
 // The places of a table, tested run by run. Those of one class stand together, and their keys rise, so that one comparison tells that a place is of
 // the run's class and comes after the one before it. A class that can be created has its loop here, and its test of a place in `class_tests`.
-ghost use Rattle.std.specs.Prelude.{◌≡◌, ◌+◌, ◌-◌, ◌*◌, ◌≤◌, ◌&&◌, length, drop, nat_le, nat_lt};
+#![tactic(auto)]
+
+ghost use Rattle.std.specs.Prelude.{◌≡◌, ℕ, ◌+◌, ◌-◌, ◌*◌, ◌<◌, ◌≤◌, ◌&&◌, Bool, List, length, drop, nat_le, nat_lt};
 ghost use Rattle.rules.specs.Catalogue.{key};
-ghost use Rattle.store.specs.Layout.{place_length, places_length, place_count};
+ghost use Rattle.store.specs.Layout.{place_width, place_length, places_length, place_count};
 ghost use Rattle.class_tables.specs.Built.{cat_of};
-ghost use Rattle.place_runs.specs.declared.Run.TheVariants.{Ends};
+ghost use Rattle.class_tests.specs.Tests.{entry_test};
 ghost use Rattle.place_runs.specs.Tests.{places_test};
-ghost use Rattle.place_runs.specs.Runs.{place_in, InPlaces, run_end};
+ghost use Rattle.place_runs.specs.Runs.{place_in, InPlaces, AnswersBy, run_end, spare_test};
 
 use class_tables::Product;
 use class_tests::PORT_FRONT;
-use std::num::wrapping_sub_u32;
 use store::layout::{ENTRY, KEY, PLACE};
-
-// A run of places ends before a place, if each of its own is legal.
-#[derive(Clone, Copy)]
-pub enum Run {
-    Ends(usize),
-    Bad,
-}
-
-// The first key of a class, and the first one behind it.
-const PROFILES: u32 = 45 * 65536;
-
-const PROFILES_END: u32 = 46 * 65536;
-
-const PORTS: u32 = 47 * 65536;
-
-const PORTS_END: u32 = 48 * 65536;
 
 // How many bytes of a port's place are zero in every product.
 const SPARE: usize = ENTRY - PORT_FRONT;
@@ -37,7 +22,7 @@ fn in_run(k: u32, low: u32, top: u32) -> bool
     requires { low ≤ top }
     ensures { result ≡ (nat_le low k && nat_lt k top) }
 {
-    wrapping_sub_u32(k, low) < top - low
+    k.wrapping_sub(low) < top - low
 }
 
 // The bytes of place i.
@@ -58,54 +43,54 @@ fn behind(r: &[u8], n: usize) -> &[u8]
     &r[n..]
 }
 
-// The run of bridge service profiles, 45, from a place on.
-fn profiles(product: Product, b: &[u8], from: usize, n: usize) -> Run
-    requires { InPlaces b.now from n }
-    ensures { result ≡ run_end (cat_of product) 45 b.now (n - from) from (key 45 0) }
+// Where the run of a class from a place on ends, if each of its places is legal behind its key.
+fn run<F: Fn(&[u8]) -> bool>(
+    class: u16,
+    legal: F,
+    b: &[u8],
+    from: usize,
+    n: usize,
+) -> Option<usize>
+    requires class { class < 65535 }
+    requires places { InPlaces b.now from n }
+    requires legal { (c : _) → length c.now ≡ place_width → F.pre legal c }
+    ensures { (test : List ℕ → Bool) → AnswersBy F.Fn legal test → result ≡ run_end test class b.now (n - from) from (key class 0) }
 {
-    let mut low = PROFILES;
-    let mut i = from;
-    while i < n {
+    let mut low = octets::key_of(class, 0);
+    let top = octets::key_of(class + 1, 0);
+    for i in from..n {
         let r = place_at(b, i);
         let k = octets::key_at(r, 0);
-        if !in_run(k, low, PROFILES_END) {
-            return Run::Ends(i);
+        if !in_run(k, low, top) {
+            return Some(i);
         }
-        if !class_tests::profile_ok(product, behind(r, KEY)) {
-            return Run::Bad;
+        if !legal(behind(r, KEY)) {
+            return None;
         }
         low = k + 1;
-        i += 1;
     }
-    Run::Ends(i)
+    Some(n)
 }
 
-// The run of ports, 47, from a place on. The zeros behind the contents are gathered over the run, and tested once.
-fn ports(product: Product, b: &[u8], from: usize, n: usize) -> Run
-    requires { InPlaces b.now from n }
-    ensures { result ≡ run_end (cat_of product) 47 b.now (n - from) from (key 47 0) }
+// Are the bytes zero that are so in every port, in these places? They are gathered, and tested once.
+fn spare_ok(b: &[u8], from: usize, end: usize) -> bool
+    requires { InPlaces b.now from end }
+    ensures { result ≡ spare_test b.now (end - from) from }
 {
     let mut spare = [0u8; SPARE];
-    let mut low = PORTS;
-    let mut i = from;
-    while i < n {
-        let r = place_at(b, i);
-        let k = octets::key_at(r, 0);
-        if !in_run(k, low, PORTS_END) {
-            break;
-        }
-        if !class_tests::port_ok(product, behind(r, KEY)) {
-            return Run::Bad;
-        }
-        bulk_octets::gather(&mut spare, behind(r, KEY + PORT_FRONT));
-        low = k + 1;
-        i += 1;
+    for i in from..end {
+        bulk_octets::gather(&mut spare, behind(place_at(b, i), KEY + PORT_FRONT));
     }
-    if octets::zeros(&spare) {
-        Run::Ends(i)
-    } else {
-        Run::Bad
-    }
+    octets::zeros(&spare)
+}
+
+// Where the run of ports, 47, from a place on ends, if each of its places is legal.
+fn ports(product: Product, b: &[u8], from: usize, n: usize) -> Option<usize>
+    requires { InPlaces b.now from n }
+    ensures { result ≡ run_end (entry_test (cat_of product) 47) 47 b.now (n - from) from (key 47 0) }
+{
+    let end = run(47, |c| class_tests::port_ok(product, c), b, from, n)?;
+    spare_ok(b, from, end).then_some(end)
 }
 
 // So many places, whose keys rise, then zeros: a run of each class in their order.
@@ -113,10 +98,10 @@ pub fn places_ok(product: Product, n: usize, b: &[u8]) -> bool
     requires { (n ≤ place_count) × (length b.now ≡ places_length) }
     ensures { result ≡ places_test (cat_of product) n 0 b.now }
 {
-    let Run::Ends(to_ports) = profiles(product, b, 0, n) else {
+    let Some(to_ports) = run(45, |c| class_tests::profile_ok(product, c), b, 0, n) else {
         return false;
     };
-    let Run::Ends(end) = ports(product, b, to_ports, n) else {
+    let Some(end) = ports(product, b, to_ports, n) else {
         return false;
     };
     (end == n) & octets::zeros_from(b, n * PLACE)

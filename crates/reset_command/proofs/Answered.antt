@@ -5,10 +5,10 @@ use mathlib.Core.Path.{◌≡◌, refl, sym, ◌∙◌, ap}
 use mathlib.Core.Bool.{Bool, true, false, not}
 use mathlib.Core.Option.{none}
 use mathlib.Core.List.{List, [], ◌∷◌, ◌++◌}
-use lib.ListN.{length, drop, set, replicate, length-take, length-drop, length-replicate}
+use lib.ListN.{length, drop, replicate, length-take, length-drop, length-replicate}
 use borrow.Rule.Slice.PartMut.{mid_of, put_mid}
 use Rattle.rules.specs.Maps.{Map, first_that_applies, keep}
-use Rattle.rules.specs.Bytes.{laid}
+use Rattle.rules.specs.Bytes.{laid, fill}
 use Rattle.rules.specs.Catalogue.{Catalogue}
 use Rattle.rules.specs.State.{Table, Alarms, State, holds, with_counter, with_table, with_alarms, with_upload, with_walk}
 use Rattle.rules.specs.Legal.{legal_state}
@@ -27,7 +27,7 @@ use Rattle.table.specs.Live.{there_in}
 use Rattle.table.proofs.HeldAt.{there_is_held}
 use Rattle.store.proofs.AlarmsStay.{alarms_stay}
 use Rattle.sound_store.specs.Held.{state_in, Sound, stored, Leaves}
-use Rattle.sound_store.proofs.Held.{remembers, in_parts, as_stored, live_opened, live_is, live_held}
+use Rattle.sound_store.proofs.Held.{remembers, in_parts, told, live_opened, live_is, live_held}
 use Rattle.reset_command.specs.Resets.{block_reset}
 use Rattle.reset_command.proofs.BlockReset.{block_law}
 use Rattle.class_tables.specs.declared.Product.{Product}
@@ -126,7 +126,7 @@ module _ (pr : Product) (b : List ℕ) (h : Sound pr b) where
 
   -- ---- the answer
 
-  module _ (c i : ℕ) (small : i < 65536) (out : List ℕ) (o : out ≡ replicate 32 0) (there : Bool) (is : there ≡ there_in cat (part live_at block_length b) c i) where
+  module _ (c i : ℕ) (small : i < 65536) (there : Bool) (is : there ≡ there_in cat (part live_at block_length b) c i) where
     held : there ≡ holds cat s.table c i
     held = is ∙ there_is_held pr (part live_at block_length b) s.table (live_held pr b h) c i small
 
@@ -138,8 +138,8 @@ module _ (pr : Product) (b : List ℕ) (h : Sound pr b) where
     unfolding reset reset_results unless_refused first_that_applies
     accepted_is e = let f : holds cat s.table c i ≡ true = sym held ∙ not-false e in rw f refl
 
-    pub refused : not there ≡ true → Leaves pr (reset cat s c i) b b (set out 0 unknown_instance)
-    refused e = rw (refused_is e) (record { store = as_stored pr b h; reply = ap (λ (x : List ℕ). set x 0 unknown_instance) o })
+    pub refused : not there ≡ true → Leaves pr (reset cat s c i) b b (fill 32 (unknown_instance ∷ []))
+    refused e = rw (refused_is e) (told pr b h (unknown_instance ∷ []))
 
-    pub accepted : {after : List ℕ} → not there ≡ false → after ≡ stored pr (was_reset cat s) b → Leaves pr (reset cat s c i) b after out
-    accepted e f = rw (accepted_is e) (record { store = f; reply = o })
+    pub accepted : {after : List ℕ} → not there ≡ false → after ≡ stored pr (was_reset cat s) b → Leaves pr (reset cat s c i) b after (replicate 32 0)
+    accepted e f = rw (accepted_is e) (record { store = f; reply = refl })

@@ -9,7 +9,7 @@ use borrow.Rule.Slice.PartMut.{mid_of, put_mid}
 use Rattle.rules.specs.Bytes.{laid}
 use Rattle.rules.specs.Legal.{automatic_keys}
 use Rattle.store.specs.Layout.{places_length, block_length, places_at, in_use_at, slots_at}
-use Rattle.octets.proofs.Laid.{laid_part, length_laid}
+use Rattle.octets.proofs.Laid.{laid_part}
 use Rattle.class_tables.specs.Built.{cat_of}
 use Rattle.reset_command.specs.Resets.{slots_begun, block_reset}
 use Rattle.class_tables.specs.declared.Product.{Product}
@@ -38,6 +38,3 @@ module _ (pr : Product) (b u z : List ℕ) (h : length b ≡ block_length) (lu :
   block_written =
       laid_behind ∙ ap (λ (v : List ℕ). laid places_at v u) zeros_are
       ∙ ap (laid places_at (replicate places_length 0)) (slots ∙ ap (slots_begun (cat_of pr) false (automatic_keys (cat_of pr)) slots_at) (two_set b (omega arith)))
-
-  pub block_long : length (put_mid places_at (length u - places_at) u z) ≡ length b
-  block_long = let n = zeros_long in ap length laid_behind ∙ length_laid places_at z u (omega arith) ∙ lu

@@ -1,10 +1,9 @@
 -- The store of a power-on: zeros, the product's number, and first contents in the slots.
 use Prim.Native.Nat.{ℕ, ◌-◌, ◌≤◌}
-use native.Mathlib.Omega.{arith}
 use mathlib.Core.Path.{◌≡◌, refl, sym, ◌∙◌, ap}
 use mathlib.Core.Bool.{true}
 use mathlib.Core.List.{List, [], ◌∷◌, ◌++◌, map}
-use lib.ListN.{length, take, drop, set, replicate, length-append, length-drop}
+use lib.ListN.{length, take, drop, set, replicate}
 use lib.Seq.{length-take-le}
 use borrow.Rule.Slice.PartMut.{mid_of, put_mid}
 use Rattle.rules.specs.Catalogue.{Catalogue}
@@ -12,7 +11,7 @@ use Rattle.rules.specs.State.{State, alarms_of, entry, with_table}
 use Rattle.rules.specs.Legal.{automatic_keys}
 use Rattle.rules.specs.Run.{fresh, fresh_table, store_length}
 use Rattle.store.specs.Layout.{slot_count, block_length, slots_at, live_at, encode, code_alarms, live_bytes, code_table, parts, code_optional, entry_bytes}
-use Rattle.store.proofs.Parts.{encode_length, Remembers, legal_remembers}
+use Rattle.store.proofs.Parts.{Remembers, legal_remembers}
 use Rattle.store.proofs.StateLaid as laid_over
 use Rattle.octets.proofs.Laid.{laid_part}
 use Rattle.class_tables.specs.declared.Product.{Product}
@@ -89,9 +88,3 @@ module _ (pr : Product) (s z v : List ℕ) (p : ℕ) (h : store_length ≤ lengt
       ∙ ap (λ (x : List ℕ). laid live_at x before) block_is
       ∙ sym (laid_over.live_laid p (cat_of pr) (blank (cat_of pr)) (fresh_remembers pr) rest (fresh_table (cat_of pr)))
       ∙ ap (λ (n : ℕ). encode n (cat_of pr) (fresh (cat_of pr)) ++ rest) q
-
-  pub fresh_long : length (put_mid live_at block_length (set (z ++ rest) 0 p) v) ≡ length s
-  unfolding stored fresh
-  fresh_long =
-      ap length fresh_written ∙ length-append (encode (product_of pr) (cat_of pr) (fresh (cat_of pr))) rest
-      ∙ omega (arith, encode_length (product_of pr) (cat_of pr) (fresh (cat_of pr)) (fresh_remembers pr), length-drop store_length s)

@@ -1,4 +1,6 @@
 // MIB reset, and the fresh store of a power-on: first contents.
+#![tactic(auto)]
+
 ghost use Rattle.std.specs.Prelude.{◌≡◌, ◌≤◌, length, replicate};
 ghost use Rattle.rules.specs.Masks.{mask};
 ghost use Rattle.rules.specs.Legal.{automatic_keys};
@@ -7,10 +9,11 @@ ghost use Rattle.rules.specs.Run.{fresh, store_length};
 ghost use Rattle.store.specs.Layout.{block_length, slots_at, places_at};
 ghost use Rattle.class_tables.specs.Built.{cat_of, class_for};
 ghost use Rattle.sound_store.specs.Held.{state_in, Sound, stored, Leaves};
+ghost use Rattle.outcome.specs.Refusals.{contents_of};
 ghost use Rattle.reset_command.specs.Resets.{begun, slots_begun, block_reset};
 
-use class_tables::{Product, built, masks, slots};
-use outcome::UNKNOWN_INSTANCE;
+use class_tables::{Product, masks, slots};
+use outcome::refusals::Refusal;
 use store::layout::{
     IN_USE, LIVE_AT, LIVE_END, PLACES, PRODUCT, SLOT, SLOTS, STORE, UPLOAD_AT, UPLOAD_END, WALK_AT,
     WALK_END,
@@ -18,6 +21,7 @@ use store::layout::{
 use table::instances;
 
 // The attributes of a class whose first contents are written: every stored one, or those that a Set may write.
+// A flag for one of two tables: a closure in its place would need a clause on what it returns, which names both tables again.
 fn begun(product: Product, class: u16, every: bool) -> u16
     ensures { result ≡ mask (begun every (class_for product class)) }
 {
@@ -33,9 +37,7 @@ fn begin_slots(b: &mut [u8], product: Product, every: bool)
     requires { places_at ≤ length b.old }
     ensures { b.new ≡ slots_begun (cat_of product) every (automatic_keys (cat_of product)) slots_at b.old }
 {
-    let n = slots::slots(product);
-    let mut j = 0;
-    while j < n {
+    for j in 0..slots::slots(product) {
         let i = slots::slot_instance(product, j);
         let class = i.class;
         attribute_write::lay_firsts(
@@ -46,7 +48,6 @@ fn begin_slots(b: &mut [u8], product: Product, every: bool)
             begun(product, class, every),
             b"",
         );
-        j += 1;
     }
 }
 
@@ -56,7 +57,7 @@ pub fn write_fresh(store: &mut [u8], product: Product)
     ensures { store.new ≡ stored product (fresh (cat_of product)) store.old }
 {
     octets::zero(&mut store[0..STORE]);
-    store[PRODUCT] = built::number_of(product);
+    store[PRODUCT] = u8::from(product);
     begin_slots(&mut store[LIVE_AT..LIVE_END], product, true);
 }
 
@@ -72,16 +73,16 @@ fn reset_block(b: &mut [u8], product: Product)
 }
 
 // Answers a MIB reset.
-pub fn reset(store: &mut [u8], product: Product, class: u16, number: u16, out: &mut [u8])
-    requires { Sound product store.old × (out.old ≡ replicate 32 0) }
+pub fn reset(store: &mut [u8], product: Product, class: u16, number: u16) -> Result<(), Refusal>
+    requires { Sound product store.old }
     ensures { Leaves product (reset (cat_of product) (state_in product store.old) class number)
-        store.old store.new out.new }
+        store.old store.new (contents_of result (replicate 32 0)) }
 {
     if !instances::is_there(&store[LIVE_AT..LIVE_END], product, class, number) {
-        out[0] = UNKNOWN_INSTANCE;
-        return;
+        return Err(Refusal::UnknownInstance);
     }
     reset_block(&mut store[LIVE_AT..LIVE_END], product);
     octets::zero(&mut store[WALK_AT..WALK_END]);
     octets::zero(&mut store[UPLOAD_AT..UPLOAD_END]);
+    Ok(())
 }

@@ -1,11 +1,16 @@
-// What a line of a bench script is made of: runs of bytes of one kind, numbers, and bytes in hex; and why a line can't be read.
-ghost use Rattle.std.specs.Prelude.{◌≡◌, ◌+◌, ◌-◌, ◌≤◌, length, drop};
-ghost use Rattle.script_values.specs.Runs.{is_blank, is_gap, digit_value, goes_on, run_end, next_word};
-ghost use Rattle.script_values.specs.Numbers.{digits_at, hex_marked, next_number, three_numbers};
-ghost use Rattle.script_values.specs.HexBytes.{Gives, hex_from};
+// What a line of a bench script is made of: runs of bytes, words, numbers, and bytes in hex; and why a line can't be read.
+#![tactic(auto)]
+
+ghost use Rattle.std.specs.Prelude.{◌≡◌, ℕ, Bool, ◌+◌, ◌-◌, ◌^◌, ◌<◌, ◌≤◌, length, drop, IfOk, IfSome, Some, slice_index};
+ghost use Rattle.script_values.specs.Reasons.{reason};
+ghost use Rattle.script_values.specs.Runs.{Computes, Within, is_blank, is_gap, digit_in, run_end, next_word};
+ghost use Rattle.script_values.specs.Numbers.{digits_at, next_number, number_in, three_numbers};
+ghost use Rattle.script_values.specs.HexBytes.{Gives, hex_digit, hex_from};
+
+use std::fmt;
 
 // Why a line can't be read.
-#[derive(Clone, Copy)]
+#[derive(Clone, Copy, Debug, PartialEq, Eq)]
 pub enum Why {
     // the first word is no call, and does not begin with a hex digit
     UnknownWord,
@@ -29,255 +34,265 @@ pub enum Why {
     TooLong,
 }
 
-// The next word: from where to where, or where one is missing.
-#[derive(Clone, Copy)]
-pub enum NextWord {
-    Is { from: usize, to: usize },
-    Missing(usize),
+impl fmt::Display for Why {
+    ghost output = { λ why. Some (reason why) };
+
+    fn fmt<W: fmt::Write>(&self, f: &mut fmt::Formatter<W>) -> fmt::Result {
+        f.write_str(match self {
+            Why::UnknownWord => "no call begins with this word",
+            Why::NotHex => "this is no hex digit",
+            Why::HalfByte => "this hex digit has no second one",
+            Why::NotANumber => "this is no number",
+            Why::NumberTooLarge => "this number is too large",
+            Why::MissingWord => "a word is missing here",
+            Why::TooMuch => "this is too much",
+            Why::NotOnOrOff => "this is neither on nor off",
+            Why::NotAProduct => "this is neither small, large nor meter",
+            Why::TooLong => "there is no room for more bytes",
+        })
+    }
+}
+
+// Where a line can't be read: the column, counted from 0, of the first byte that can't be; and why.
+#[derive(Clone, Copy, Debug, PartialEq, Eq)]
+pub struct Wrong {
+    pub place: usize,
+    pub why: Why,
+}
+
+// Where a word stands in a line.
+#[derive(Clone, Copy, Debug, PartialEq, Eq)]
+pub struct Word {
+    pub from: usize,
+    pub to: usize,
 }
 
 // A number and where its word ends.
-#[derive(Clone, Copy)]
-pub enum Number {
-    Is { value: u16, next: usize },
-    Wrong { place: usize, why: Why },
+#[derive(Clone, Copy, Debug, PartialEq, Eq)]
+pub struct Number {
+    pub value: u16,
+    pub next: usize,
 }
 
 // The three numbers that a report and an alarm begin with, and where they end.
-#[derive(Clone, Copy)]
-pub enum Three {
-    Are {
-        class: u16,
-        number: u16,
-        third: u8,
-        next: usize,
-    },
-    Wrong {
-        place: usize,
-        why: Why,
-    },
+#[derive(Clone, Copy, Debug, PartialEq, Eq)]
+pub struct Three {
+    pub class: u16,
+    pub number: u16,
+    pub third: u8,
+    pub next: usize,
 }
 
-// Bytes in hex: how many there are.
+// What is left of a line: its text, and the place up to which it is read.
 #[derive(Clone, Copy)]
-pub enum Hex {
-    Bytes(usize),
-    Wrong { place: usize, why: Why },
-}
-
-// What bytes stand next to each other.
-#[derive(Clone, Copy)]
-pub enum Run {
-    Blanks,
-    Word,
-    // blanks and underscores, between hex digits
-    Gaps,
-    // what stands before a comment
-    Code,
+pub struct Rest<'a> {
+    pub text: &'a [u8],
+    pub at: usize,
 }
 
 // Is it a space, a tab or a carriage return?
+#[tactic(auto, unfolding(crate::specs::Runs::is_blank))]
 fn is_blank(c: u8) -> bool
     ensures { result ≡ is_blank c }
 {
-    (c == b' ') | ((c == b'\t') | (c == b'\r'))
+    matches!(c, b' ' | b'\t' | b'\r')
 }
 
 // Is it passed over between hex digits: a blank or an underscore?
+#[tactic(auto, unfolding(crate::specs::Runs::is_gap))]
 fn is_gap(c: u8) -> bool
     ensures { result ≡ is_gap c }
 {
-    (c == b'_') | is_blank(c)
+    c == b'_' || is_blank(c)
 }
 
-// Does a run go on with a byte?
-fn goes_on(run: Run, c: u8) -> bool
-    ensures { result ≡ goes_on run c }
+// The digit of a base that a byte is.
+#[tactic(auto, unfolding(crate::specs::Runs::digit_in))]
+fn digit_in(c: u8, base: u8) -> Option<u8>
+    requires { (2 ≤ base) × (base ≤ 16) }
+    ensures value { result ≡ digit_in base c }
+    ensures within { IfSome result (λ d. d < base) }
 {
-    match run {
-        Run::Blanks => is_blank(c),
-        Run::Word => !is_blank(c),
-        Run::Gaps => is_gap(c),
-        Run::Code => c != b'#',
-    }
+    let digit = char::from(c).to_digit(u32::from(base))?;
+    Some(digit as u8)
 }
 
-// Where a run ends that begins at a place.
-pub fn run_end(text: &[u8], at: usize, run: Run) -> usize
-    ensures { (result ≡ run_end run text.now at) × (at ≤ result) × (result ≤ at + (length text.now - at)) }
+// The hex digit that a byte is.
+pub fn digit(c: u8) -> Option<u8>
+    ensures value { result ≡ digit_in 16 c }
+    ensures within { IfSome result (λ d. d < 16) }
 {
-    let mut i = at;
-    while i < text.len() {
-        if !goes_on(run, text[i]) {
-            return i;
-        }
-        i += 1;
-    }
-    i
+    digit_in(c, 16)
 }
 
-// The next word behind a place.
-pub fn next_word(text: &[u8], at: usize) -> NextWord
-    ensures { result ≡ next_word text.now at }
+// The number in digits, the first of which stands at a place.
+fn digits(text: &[u8], place: usize, base: u8, limit: u16) -> Result<u16, Wrong>
+    requires based { (2 ≤ base) × (base ≤ 16) }
+    requires placed { place + length text.now < 2 ^ 64 }
+    ensures value { result ≡ digits_at base limit place text.now }
+    ensures within { IfOk result (λ v. v ≤ limit) }
 {
-    let from = run_end(text, at, Run::Blanks);
-    if text.len() <= from {
-        return NextWord::Missing(from);
-    }
-    let to = run_end(text, from, Run::Word);
-    NextWord::Is { from, to }
-}
-
-// The value of a hex digit, or 16 for another byte.
-pub fn digit(c: u8) -> u8
-    ensures { (result ≡ digit_value c) × (result ≤ 16) }
-{
-    if c < b'0' {
-        return 16;
-    }
-    if c <= b'9' {
-        return c - b'0';
-    }
-    if c < b'A' {
-        return 16;
-    }
-    if c <= b'F' {
-        return c - b'A' + 10;
-    }
-    if c < b'a' {
-        return 16;
-    }
-    if c <= b'f' {
-        return c - b'a' + 10;
-    }
-    16
-}
-
-// The number in the digits from a place to the end of the text.
-fn digits(text: &[u8], at: usize, base: u8, limit: u16) -> Number
-    requires { base ≤ 16 }
-    ensures { result ≡ digits_at base limit at (drop at text.now) }
-{
-    if text.len() <= at {
-        return Number::Wrong {
-            place: at,
+    if text.is_empty() {
+        return Err(Wrong {
+            place,
             why: Why::NotANumber,
-        };
+        });
     }
     let mut value: u16 = 0;
-    let mut i = at;
-    while i < text.len() {
-        let d = digit(text[i]);
-        if base <= d {
-            return Number::Wrong {
-                place: i,
-                why: Why::NotANumber,
-            };
-        }
-        let more = (value as u32) * (base as u32) + (d as u32);
-        if (limit as u32) < more {
-            return Number::Wrong {
-                place: i,
+    for (i, c) in text.iter().enumerate() {
+        let place = place + i;
+        let digit = digit_in(*c, base).ok_or(Wrong {
+            place,
+            why: Why::NotANumber,
+        })?;
+        let more = u32::from(value) * u32::from(base) + u32::from(digit);
+        if u32::from(limit) < more {
+            return Err(Wrong {
+                place,
                 why: Why::NumberTooLarge,
-            };
+            });
         }
         value = more as u16;
-        i += 1;
     }
-    Number::Is { value, next: i }
+    Ok(value)
 }
 
-// Does `0x` stand at a place?
-fn hex_marked(text: &[u8], at: usize) -> bool
-    requires { at ≤ length text.now }
-    ensures { result ≡ hex_marked (drop at text.now) }
+// The number that a word at a place holds.
+fn number_in(word: &[u8], place: usize, limit: u16) -> Result<u16, Wrong>
+    requires { place + length word.now < 2 ^ 64 }
+    ensures value { result ≡ number_in limit place word.now }
+    ensures within { IfOk result (λ v. v ≤ limit) }
 {
-    if text.len() - at < 2 {
-        return false;
+    match word.strip_prefix(b"0x") {
+        Some(after) => digits(after, place + 2, 16, limit),
+        None => digits(word, place, 10, limit),
     }
-    (text[at] == b'0') & (text[at + 1] == b'x')
 }
 
-// The number in the next word.
-fn number_at(text: &[u8], at: usize, limit: u16) -> Number
-    ensures { result ≡ next_number limit text.now at }
-{
-    match next_word(text, at) {
-        NextWord::Missing(place) => Number::Wrong {
-            place,
-            why: Why::MissingWord,
-        },
-        NextWord::Is { from, to } => {
-            let word = &text[..to];
-            if hex_marked(word, from) {
-                return digits(word, from + 2, 16, limit);
+impl<'a> Rest<'a> {
+    // The same text, read up to another place.
+    pub fn behind(self, at: usize) -> Rest<'a>
+        ensures text { result.text ≡ self.entry.text }
+        ensures at { result.at ≡ at }
+    {
+        Rest { at, ..self }
+    }
+
+    // Where a run of bytes ends that pass a test.
+    pub fn run_end<F: Fn(u8) -> bool>(self, goes_on: F) -> usize
+        requires { F.IsAlwaysCallable goes_on }
+        ensures run { (p : ℕ → Bool) → Computes (F.post goes_on) p → result ≡ run_end p self.entry.text.now self.entry.at }
+        ensures within { (self.entry.at ≤ result) × (result ≤ self.entry.at + (length self.entry.text.now - self.entry.at)) }
+    {
+        let Rest { text, at } = self;
+        for i in at..text.len() {
+            if !goes_on(text[i]) {
+                return i;
             }
-            digits(word, from, 10, limit)
         }
+        at.max(text.len())
     }
-}
 
-// The three numbers behind a place.
-pub fn three_numbers(text: &[u8], at: usize) -> Three
-    ensures { result ≡ three_numbers text.now at }
-{
-    match number_at(text, at, 65535) {
-        Number::Wrong { place, why } => Three::Wrong { place, why },
-        Number::Is { value: class, next } => match number_at(text, next, 65535) {
-            Number::Wrong { place, why } => Three::Wrong { place, why },
-            Number::Is {
-                value: number,
-                next,
-            } => match number_at(text, next, 255) {
-                Number::Wrong { place, why } => Three::Wrong { place, why },
-                Number::Is { value, next } => Three::Are {
-                    class,
-                    number,
-                    third: value as u8,
-                    next,
-                },
-            },
-        },
+    // Where the blanks end.
+    pub fn blanks_end(self) -> usize
+        ensures run { result ≡ run_end is_blank self.entry.text.now self.entry.at }
+        ensures within { (self.entry.at ≤ result) × (result ≤ self.entry.at + (length self.entry.text.now - self.entry.at)) }
+    {
+        self.run_end(is_blank)
     }
-}
 
-// Reads bytes in hex, from a place to the end of the text, into a buffer.
-pub fn hex_bytes(text: &[u8], at: usize, bytes: &mut [u8]) -> Hex
-    ensures { Gives (hex_from (length bytes.old) text.now at) result bytes.old bytes.new }
-{
-    let mut n = 0;
-    let mut i = run_end(text, at, Run::Gaps);
-    while i < text.len() {
-        let high = digit(text[i]);
-        if high == 16 {
-            return Hex::Wrong {
-                place: i,
-                why: Why::NotHex,
-            };
-        }
-        let j = run_end(text, i + 1, Run::Gaps);
-        if text.len() <= j {
-            return Hex::Wrong {
-                place: i,
-                why: Why::HalfByte,
-            };
-        }
-        let low = digit(text[j]);
-        if low == 16 {
-            return Hex::Wrong {
-                place: j,
-                why: Why::NotHex,
-            };
-        }
-        if bytes.len() <= n {
-            return Hex::Wrong {
-                place: i,
-                why: Why::TooLong,
-            };
-        }
-        bytes[n] = high * 16 + low;
-        n += 1;
-        i = run_end(text, j + 1, Run::Gaps);
+    // Where the blanks and underscores between hex digits end.
+    fn gaps_end(self) -> usize
+        ensures run { result ≡ run_end is_gap self.entry.text.now self.entry.at }
+        ensures within { (self.entry.at ≤ result) × (result ≤ self.entry.at + (length self.entry.text.now - self.entry.at)) }
+    {
+        self.run_end(is_gap)
     }
-    Hex::Bytes(n)
+
+    // The next word.
+    pub fn next_word(self) -> Result<Word, Wrong>
+        ensures value { result ≡ next_word self.entry.text.now self.entry.at }
+        ensures within { IfOk result (λ w. Within self.entry.text.now w) }
+    {
+        let from = self.blanks_end();
+        if self.text.len() <= from {
+            return Err(Wrong {
+                place: from,
+                why: Why::MissingWord,
+            });
+        }
+        let to = self.behind(from).run_end(|c| !is_blank(c));
+        Ok(Word { from, to })
+    }
+
+    // The number in the next word.
+    fn number(self, limit: u16) -> Result<Number, Wrong>
+        ensures value { result ≡ next_number limit self.entry.text.now self.entry.at }
+        ensures within { IfOk result (λ n. n.value ≤ limit) }
+    {
+        let word = self.next_word()?;
+        let value = number_in(&self.text[word.from..word.to], word.from, limit)?;
+        Ok(Number {
+            value,
+            next: word.to,
+        })
+    }
+
+    // The next three numbers.
+    pub fn three_numbers(self) -> Result<Three, Wrong>
+        ensures { result ≡ three_numbers self.entry.text.now self.entry.at }
+    {
+        let class = self.number(u16::MAX)?;
+        let number = self.behind(class.next).number(u16::MAX)?;
+        let third = self.behind(number.next).number(255)?;
+        Ok(Three {
+            class: class.value,
+            number: number.value,
+            third: third.value as u8,
+            next: third.next,
+        })
+    }
+
+    // The hex digit that the byte at a place is.
+    #[tactic(auto, unfolding(crate::specs::HexBytes::hex_digit))]
+    fn hex_digit(self, place: usize) -> Result<u8, Wrong>
+        requires { place < length self.text.now }
+        ensures value { result ≡ hex_digit place (slice_index self.entry.text.now place) }
+        ensures within { IfOk result (λ d. d < 16) }
+    {
+        digit(self.text[place]).ok_or(Wrong {
+            place,
+            why: Why::NotHex,
+        })
+    }
+
+    // Reads bytes in hex, up to the end of the text, into a buffer, and says how many there are.
+    pub fn hex_bytes(self, bytes: &mut [u8]) -> Result<usize, Wrong>
+        ensures { Gives (hex_from (length bytes.old) self.entry.text.now self.entry.at) result bytes.old bytes.new }
+    {
+        let mut n = 0;
+        let mut i = self.gaps_end();
+        // A turn reads two digits, each with the gaps behind it: a `for` over the bytes would keep the first one in a flag.
+        while i < self.text.len() {
+            let high = self.hex_digit(i)?;
+            let j = self.behind(i + 1).gaps_end();
+            if self.text.len() <= j {
+                return Err(Wrong {
+                    place: i,
+                    why: Why::HalfByte,
+                });
+            }
+            let low = self.hex_digit(j)?;
+            if bytes.len() <= n {
+                return Err(Wrong {
+                    place: i,
+                    why: Why::TooLong,
+                });
+            }
+            bytes[n] = high * 16 + low;
+            n += 1;
+            i = self.behind(j + 1).gaps_end();
+        }
+        Ok(n)
+    }
 }

@@ -1,26 +1,30 @@
 -- The slots of the products, byte by byte.
-use Prim.Native.Nat.{ℕ, ◌+◌, ◌≤◌}
+use Rattle.std.proofs.Common.{◌⊎◌, ⊎_elim}
+use Prim.Native.Nat.{ℕ, suc, ◌+◌, ◌*◌, ◌≤◌}
 use native.Mathlib.Omega.{arith}
-use mathlib.Core.Path.{◌≡◌, refl, ◌∙◌}
-use mathlib.Core.Bool.{true}
+use mathlib.Core.Path.{◌≡◌, refl, sym, ◌∙◌}
+use mathlib.Core.Bool.{Bool, true}
 use mathlib.Core.List.{List, [], ◌∷◌}
 use lib.ListN.{length, take, drop, length-drop}
 use lib.Seq.{length-take-le, drop-drop}
-use Rattle.rules.specs.Maps.{◌and◌}
+use lib.Dec.{eqb}
+use Rattle.rules.specs.Maps.{◌and◌, all}
 use Rattle.rules.specs.Bytes.{are_bytes, all_zero}
 use Rattle.rules.specs.Catalogue.{family, key}
+use Rattle.rules.specs.State.{class_of}
 use Rattle.rules.specs.Legal.{automatic_keys}
+use Rattle.rules.proofs.Laws.{both, eqb_eq}
 use Rattle.rules.proofs.Conjunctions.{and_assoc, and_end}
 use Rattle.rules.proofs.ByteLaws.{bytes_take, bytes_drop}
-use Rattle.store.specs.Layout.{slot_width, slots_length}
+use Rattle.store.specs.Layout.{slot_count, slot_width, slots_length}
 use Rattle.class_tables.specs.declared.Product.{Product}
 use Rattle.class_tables.specs.declared.Product.TheVariants.{Small, Large, Meter}
-use Rattle.class_tables.specs.Built.{cat_of}
+use Rattle.class_tables.specs.Built.{cat_of, by_product}
 use Rattle.class_tables.specs.Computing.{computing_tables}
 use Rattle.class_tests.specs.ContentTests.{contents_test, computing_tests}
 use Rattle.class_tests.specs.Tests.{family_test}
 use Rattle.class_tests.proofs.Entries.{none_left, zeros_behind, wide, family_is}
-use Rattle.slot_tests.specs.Tests.{slots_test}
+use Rattle.slot_tests.specs.Tests.{slots_test, unis_test}
 
 -- which slots there are
 
@@ -63,31 +67,45 @@ module _ (b : List ℕ) (h : length b ≡ slots_length) (bs : are_bytes b ≡ tr
       )
       refl
 
-  pub small_slots : slots_test (cat_of Small) (automatic_keys (cat_of Small)) b ≡ (contents_test Small 11 (slot_of 0) and all_zero (drop 6 b))
+  small_slots : slots_test (cat_of Small) (automatic_keys (cat_of Small)) b ≡ (contents_test Small 11 (slot_of 0) and all_zero (drop 6 b))
   small_slots = one_slot Small 6 small_keys (unfold computing_tables computing_tests in refl) (omega arith)
 
-  pub meter_slots : slots_test (cat_of Meter) (automatic_keys (cat_of Meter)) b ≡ (contents_test Meter 11 (slot_of 0) and all_zero (drop 4 b))
+  meter_slots : slots_test (cat_of Meter) (automatic_keys (cat_of Meter)) b ≡ (contents_test Meter 11 (slot_of 0) and all_zero (drop 4 b))
   meter_slots = one_slot Meter 4 meter_keys (unfold computing_tables computing_tests in refl) (omega arith)
 
-  slot_block : (at : ℕ) → at + slot_width ≤ slots_length → family_test (cat_of Large) (family (cat_of Large) 11) (slot_of at) ≡ contents_test Large 11 (slot_of at)
-  slot_block at k =
-      let l = slot_long at k in
-      family_is Large 11 slot_width (slot_of at) (unfold computing_tables computing_tests in refl) (omega arith) (slot_bytes at)
-      ∙ rw (none_left slot_width (slot_of at) l) (and_end (contents_test Large 11 (slot_of at)))
+  -- by where the zeros begin
+  pub one_uni : (pr : Product) {at : ℕ} → at ≡ by_product pr 6 slot_width 4 → (pr ≡ Small) ⊎ (pr ≡ Meter)
+      → (contents_test pr 11 (slot_of 0) and all_zero (drop at b)) ≡ slots_test (cat_of pr) (automatic_keys (cat_of pr)) b
+  one_uni pr e h = ⊎_elim (λ (f : pr ≡ Small). rw (e, f) (sym small_slots)) (λ (f : pr ≡ Meter). rw (e, f) (sym meter_slots)) h
 
-  pub large_slots : slots_test (cat_of Large) (automatic_keys (cat_of Large)) b
-      ≡ (contents_test Large 11 (slot_of 0) and (contents_test Large 11 (slot_of 15) and (contents_test Large 11 (slot_of 30) and contents_test Large 11 (slot_of 45))))
-  unfolding slots_test
-  large_slots = rw (
-    large_keys,
-    drop-drop slot_width 15 b,
-    drop-drop slot_width 30 b,
-    drop-drop slot_width 45 b,
-    none_left slots_length b h,
-    slot_block 0 (omega arith),
-    slot_block 15 (omega arith),
-    slot_block 30 (omega arith),
-    slot_block 45 (omega arith),
-    and_end (contents_test Large 11 (slot_of 45)),
-  )
-      refl
+-- UNIs of Large fill their slots
+full_slot : (b : List ℕ) → length b ≡ slot_width → are_bytes b ≡ true → family_test (cat_of Large) (family (cat_of Large) 11) b ≡ contents_test Large 11 b
+full_slot b l bs =
+    family_is Large 11 slot_width b (unfold computing_tables computing_tests in refl) (omega (arith, l)) bs
+    ∙ rw (none_left slot_width b l) (and_end (contents_test Large 11 b))
+
+each_uni : (l : List ℕ) (b : List ℕ) → all (λ k. eqb (class_of k) 11) l ≡ true → length b ≡ length l * slot_width → are_bytes b ≡ true
+    → slots_test (cat_of Large) l b ≡ unis_test Large (length l) b
+unfolding slots_test unis_test all
+each_uni [] b h w bs = none_left 0 b w
+each_uni (k ∷ l) b h w bs =
+    let rest : length (drop slot_width b) ≡ length l * slot_width = rw (length-drop slot_width b) (omega (arith, w)) in
+    rw (
+      eqb_eq (class_of k) 11 (both h).0,
+      full_slot (take slot_width b) (length-take-le slot_width b (omega (arith, w))) (bytes_take slot_width b bs),
+      each_uni l (drop slot_width b) (both h).1 rest (bytes_drop slot_width b bs),
+    )
+    refl
+
+pub large_slots : (b : List ℕ) → length b ≡ slots_length → are_bytes b ≡ true → unis_test Large slot_count b ≡ slots_test (cat_of Large) (automatic_keys (cat_of Large)) b
+unfolding ◌and◌
+large_slots b h bs =
+    sym (rw large_keys (each_uni (key 11 0x0101 ∷ key 11 0x0102 ∷ key 11 0x0103 ∷ key 11 0x0104 ∷ []) b (unfold all in refl) (omega (arith, h)) bs))
+
+-- a turn of the loop over the slots: slot j is tested, and n are left behind it
+pub next_uni : (pr : Product) (b : List ℕ) (legal : Bool) (j n : ℕ) {s : List ℕ} {r : Bool} → s ≡ take slot_width (drop (j * slot_width) b) → r ≡ contents_test pr 11 s
+    → ((legal and r) and unis_test pr n (drop ((j + 1) * slot_width) b)) ≡ (legal and unis_test pr (suc n) (drop (j * slot_width) b))
+unfolding unis_test
+next_uni pr b legal j n {s} {r} e f =
+    let g : j * slot_width + slot_width ≡ (j + 1) * slot_width = omega arith in
+    rw (drop-drop slot_width (j * slot_width) b, g, ← e, ← f) (and_assoc legal r (unis_test pr n (drop ((j + 1) * slot_width) b)))

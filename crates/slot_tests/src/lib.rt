@@ -1,23 +1,17 @@
 // The instances that are there by themselves: straight-line tests of their contents, which have a slot each, and of their alarms. Tests that need
 // no order are joined by `&`, which makes no branch.
+#![tactic(auto)]
+
 ghost use Rattle.std.specs.Prelude.{◌≡◌, length};
 ghost use Rattle.rules.specs.Legal.{automatic_keys};
 ghost use Rattle.store.specs.Layout.{slot_count, slot_width, slots_length};
 ghost use Rattle.class_tables.specs.Built.{cat_of};
 ghost use Rattle.class_tests.specs.ContentTests.{contents_test};
-ghost use Rattle.slot_tests.specs.Tests.{slots_test, alarms_test};
+ghost use Rattle.slot_tests.specs.Tests.{slots_test, alarms_test, unis_test};
 
 use class_tables::Product;
-use store::layout::SLOT;
-
-// Where the slots behind the first begin, and where the last ends.
-const SECOND: usize = SLOT;
-
-const THIRD: usize = 2 * SLOT;
-
-const FOURTH: usize = 3 * SLOT;
-
-const SLOTS_END: usize = 4 * SLOT;
+use class_tables::built::by;
+use store::layout::{SLOT, SLOT_COUNT};
 
 // The contents of a UNI, 11.
 fn uni_legal(product: Product, c: &[u8]) -> bool
@@ -32,20 +26,30 @@ fn uni_legal(product: Product, c: &[u8]) -> bool
     }
 }
 
+// The slots of Large, each with a UNI. All are tested: a branch for each would cost more.
+fn unis_legal(product: Product, b: &[u8]) -> bool
+    requires { length b.now ≡ slots_length }
+    ensures { result ≡ unis_test product slot_count b.now }
+{
+    let mut legal = true;
+    for j in 0..SLOT_COUNT {
+        let at = j * SLOT;
+        let end = at + SLOT;
+        legal &= uni_legal(product, &b[at..end]);
+    }
+    legal
+}
+
 // The slots: in Large four UNIs, in Small and Meter one, and zeros.
 pub fn slots_ok(product: Product, b: &[u8]) -> bool
     requires { length b.now ≡ slots_length }
     ensures { result ≡ slots_test (cat_of product) (automatic_keys (cat_of product)) b.now }
 {
     match product {
-        Product::Small => uni_legal(product, &b[0..SECOND]) & octets::zeros_from(b, 6),
-        Product::Large => {
-            uni_legal(product, &b[0..SECOND])
-                & (uni_legal(product, &b[SECOND..THIRD])
-                    & (uni_legal(product, &b[THIRD..FOURTH])
-                        & uni_legal(product, &b[FOURTH..SLOTS_END])))
+        Product::Large => unis_legal(product, b),
+        Product::Small | Product::Meter => {
+            uni_legal(product, &b[..SLOT]) & octets::zeros_from(b, by(product, 6, SLOT, 4))
         }
-        Product::Meter => uni_legal(product, &b[0..SECOND]) & octets::zeros_from(b, 4),
     }
 }
 
@@ -55,10 +59,7 @@ pub fn alarms_ok(product: Product, b: &[u8]) -> bool
     ensures { result ≡ alarms_test (cat_of product) (automatic_keys (cat_of product)) b.now }
 {
     match product {
-        Product::Small => (b[0] % 128 == 0) & octets::zeros_from(b, 1),
-        Product::Large => {
-            (b[0] % 128 == 0) & ((b[1] % 128 == 0) & ((b[2] % 128 == 0) & (b[3] % 128 == 0)))
-        }
-        Product::Meter => (b[0] % 128 == 0) & octets::zeros_from(b, 1),
+        Product::Large => b.iter().fold(true, |declared, x| declared & (*x % 128 == 0)),
+        Product::Small | Product::Meter => (b[0] % 128 == 0) & octets::zeros_from(b, 1),
     }
 }

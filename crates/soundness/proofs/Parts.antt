@@ -13,12 +13,17 @@ use Rattle.rules.specs.Masks.{total}
 use Rattle.rules.specs.Catalogue.{Catalogue}
 use Rattle.rules.specs.Legal.{automatic_keys, header_drops}
 use Rattle.rules.specs.Run.{store_length}
+use Rattle.rules.proofs.Conjunctions.{join_assoc}
 use Rattle.rules.proofs.Laws.{cases, same?, eqb_true, eqb_false, true_and, same_eq}
 use Rattle.store.specs.Layout.{part_lengths, slot_count, table_length, block_length, command_length, memory_length, nth_memory, nth_alarms, nth_walk, nth_table, nth_upload}
 use Rattle.store.specs.Layout.{memory_at, alarms_at, walk_at, live_at, table_at, upload_at}
 use Rattle.store.specs.Decode.{cut_parts}
 use Rattle.slot_tests.specs.Tests.{alarms_test}
 use Rattle.soundness.specs.Tests.{memory_test, optional_test, store_test, table_test}
+
+-- four tests joined from the left
+pub from_left : (p q r s : Bool) → (((p && q) && r) && s) ≡ (p && (q && (r && s)))
+from_left p q r s = join_assoc (p && q) r s ∙ join_assoc p q (r && s)
 
 -- ---- the remembered command
 

@@ -1,5 +1,7 @@
 // Is a store sound? A test for each part, over the part's own bytes; what is known of a class stands in `class_tests`. Tests that need no
 // order are joined by `&`, which makes no branch.
+#![tactic(auto)]
+
 ghost use Rattle.std.specs.Prelude.{◌≡◌, ◌+◌, ◌≤◌, length, take, drop};
 ghost use Rattle.rules.specs.Maps.{◌and◌};
 ghost use Rattle.rules.specs.Legal.{automatic_keys};
@@ -11,7 +13,7 @@ ghost use Rattle.store.specs.Decode.{sound};
 ghost use Rattle.slot_tests.specs.Tests.{alarms_test};
 ghost use Rattle.soundness.specs.Tests.{table_test, memory_test, optional_test, store_test};
 
-use class_tables::{Named, Product, built};
+use class_tables::Product;
 use store::layout::{
     ALARMS_AT, ALARMS_END, BLOCK, IN_USE, LIVE_AT, LIVE_END, MEMORY_AT, MEMORY_END, PLACE_COUNT,
     PLACES, PRODUCT, SLOTS, STORE, UPLOAD_AT, UPLOAD_END, WALK, WALK_AT, WALK_END,
@@ -22,7 +24,7 @@ fn table_ok(product: Product, b: &[u8]) -> bool
     requires { length b.now ≡ block_length }
     ensures { result ≡ table_test (cat_of product) (drop 1 b.now) }
 {
-    let n = octets::wide(b[IN_USE]) as usize;
+    let n = usize::from(b[IN_USE]);
     if PLACE_COUNT < n {
         return false;
     }
@@ -40,7 +42,7 @@ fn memory_part_ok(b: &[u8]) -> bool
     if b[0] == 0 {
         return octets::zeros_from(b, 1);
     }
-    (b[0] == 1) & ((b[4] == 0x0A) & ((b[3] / 32 == 2) & !((b[1] == 0) & (b[2] == 0))))
+    (b[0] == 1) & (b[4] == 0x0A) & (b[3] / 32 == 2) & !((b[1] == 0) & (b[2] == 0))
 }
 
 // The part of the alarm walk: none, or its alarms.
@@ -80,9 +82,9 @@ fn parts_ok(product: Product, s: &[u8]) -> bool
     ensures { result ≡ store_test (cat_of product) (take store_length s.now) }
 {
     memory_part_ok(&s[MEMORY_AT..MEMORY_END])
-        & (slot_tests::alarms_ok(product, &s[ALARMS_AT..ALARMS_END])
-            & (walk_part_ok(product, &s[WALK_AT..WALK_END])
-                & tables_ok(product, &s[LIVE_AT..LIVE_END], &s[UPLOAD_AT..UPLOAD_END])))
+        & slot_tests::alarms_ok(product, &s[ALARMS_AT..ALARMS_END])
+        & walk_part_ok(product, &s[WALK_AT..WALK_END])
+        & tables_ok(product, &s[LIVE_AT..LIVE_END], &s[UPLOAD_AT..UPLOAD_END])
 }
 
 // Is a store sound?
@@ -92,9 +94,8 @@ pub fn store_ok(s: &[u8]) -> bool
     if s.len() < STORE {
         return false;
     }
-    let named = built::product_at(s[PRODUCT]);
-    match named {
-        Named::Is(product) => parts_ok(product, s),
-        Named::Nothing => false,
+    match Product::try_from(s[PRODUCT]) {
+        Ok(product) => parts_ok(product, s),
+        Err(_) => false,
     }
 }

@@ -3,12 +3,11 @@ use Prim.Native.Nat.{ℕ, suc, ◌+◌, ◌<◌}
 use native.Mathlib.Nat.{add-zero, zero-add}
 use native.Mathlib.Omega.{arith}
 use mathlib.Core.Path.{◌≡◌, sym, ap, ◌∙◌}
-use mathlib.Core.Bool.{true, false}
 use mathlib.Core.List.{List, [], ◌∷◌, ◌++◌, append_assoc, append-nil}
 use lib.ListN.{length, take, get_or}
 use lib.Seq.{length-take-le}
 use Rattle.text_buffer.specs.Digits.{hex}
-use Rattle.text_buffer.specs.Groups.{begins_group, gap, grouped}
+use Rattle.text_buffer.specs.Groups.{gap, grouped}
 use Rattle.text_buffer.proofs.Hexes.{one_more}
 
 grouped_append : (k : ℕ) (a b : List ℕ) → grouped k (a ++ b) ≡ grouped k a ++ grouped (k + length a) b
@@ -28,11 +27,3 @@ grouped_more m i h =
     ap (λ (l : List ℕ). grouped 0 (take i m) ++ (gap i ++ l)) (sym (append-nil (hex (get_or m i 0))))
     ∙ ap (λ (n : ℕ). grouped 0 (take i m) ++ grouped n (get_or m i 0 ∷ [])) e
     ∙ sym (grouped_append 0 (take i m) (get_or m i 0 ∷ [])) ∙ ap (grouped 0) (one_more m i h)
-
-pub a_gap : (i : ℕ) → begins_group i ≡ true → 32 ∷ [] ≡ gap i
-unfolding gap
-a_gap i h = rw h
-
-pub no_gap : (i : ℕ) → begins_group i ≡ false → [] ≡ gap i
-unfolding gap
-no_gap i h = rw h

@@ -1,4 +1,3 @@
-pub mod Saying
 pub mod Hexes
 pub mod Grouping
-pub mod Telling
+pub mod Printed

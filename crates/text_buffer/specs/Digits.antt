@@ -1,7 +1,5 @@
 -- Bytes and numbers as hex digits.
 use Rattle.std.specs.Prelude.{ℕ, ◌/◌, ◌%◌, List, [], ◌∷◌, ◌++◌, get_or}
-use Rattle.io.specs.Digits.{last_digits, IsDigitCount}
-use Rattle.text_buffer.specs.Said.{Says}
 
 -- 0 to 9, A to F
 unfoldable pub hex_digits : List ℕ
@@ -23,9 +21,3 @@ hexes (b ∷ l) = hex b ++ hexes l
 -- 0x and four digits
 abbrev pub hex_number : ℕ → List ℕ
 hex_number n = 48 ∷ 120 ∷ (hex (n / 256) ++ hex (n % 256))
-
--- a number in decimal digits, the fewest that hold it
-pub record SaysDecimal (out : List ℕ) (at n r : ℕ) (after : List ℕ) : Type 0 where
-  pub count : ℕ
-  pub fewest : IsDigitCount 10 1 n count
-  pub says : Says out at (last_digits 10 count n) r after

@@ -1,4 +1,3 @@
-pub mod Said
 pub mod Digits
 pub mod Tables
 pub mod Groups

@@ -1,4 +1,4 @@
-// Texts laid into a buffer that the caller lends. Each writer takes the place where its text begins and answers the place behind
-// it; a full buffer takes no more.
-pub mod tables;
+// Bytes and numbers as hex digits, as they are printed.
+#![tactic(auto)]
+
 pub mod text;

@@ -10,10 +10,6 @@ use Rattle.alarm_report.proofs.Turning.{noticed, begun_length}
 use borrow.Author.Rules.{rules}
 use Rattle.alarm_report.proofs.notify.Statement.{statement}
 use Rattle.alarm_report.proofs.notify.Tie as tie
-use Rattle.alarm_report.proofs.notify.Reads as reads
-use Rattle.alarm_report.proofs.notify.Lts as lts
-use Rattle.bits.proofs.next_number.Reads as next_number_reads
-use Rattle.message_frame.proofs.begin.Reads as begin_reads
 
 slice_write_reply_2 : tie.Need-bounds-reply-39
 slice_write_reply_2 c =
