@@ -24,7 +24,7 @@ use Rattle.class_tables.specs.Built.{cat_of, product_of, Names, named_catalogue}
 use Rattle.class_tables.proofs.EveryProduct.{product_found, well_formed_of, fits_of}
 use Rattle.sound_store.specs.Held.{state_in, stored}
 use Rattle.engine.specs.Entering.{first_drops, Enters, Opened}
-use Rattle.std.specs.Prelude.{Result, Ok, Err}
+use Rattle.std.specs.Prelude.{Result, Ok, Err, MatchResult}
 use Rattle.message_frame.specs.Drops.{drop_number}
 use Rattle.message_frame.specs.declared.drops.DropReason.{DropReason}
 use Rattle.message_frame.specs.declared.drops.DropReason.TheVariants as reason
@@ -115,6 +115,12 @@ module _ (room : ℕ) (b : List ℕ) where
     has_room = λ q e. h;
     opened = λ q e. let z : pr ≡ q = cc in subst (λ (x : Product). Opened x b) z o;
   }
+
+  -- the product that the store's first byte names, with another reason where it names none
+  pub entered_by : reply_length ≤ room → sound built_products b ≡ true → (r : Result Product NotBuilt) → Names (byte b 0) r
+      → (P : NotBuilt → Type 0) {o : Result Product DropReason} → MatchResult r (λ pr. o ≡ Ok pr) P → Enters room b o
+  entered_by h s (Ok pr) names P is = subst (λ (o : Result Product DropReason). Enters room b o) (sym is) (enters h pr (opened_as b s names pr refl))
+  entered_by h s (Err e) names P is = is_named b s names refl
 
 -- ---- and what it then does
 

@@ -65,10 +65,11 @@ fn begin(store: &[u8], room: usize) -> Result<Product, DropReason>
     if room < REPLY {
         return Err(DropReason::ShortReply);
     }
-    if !soundness::store_ok(store) {
-        return Err(DropReason::UnsoundStore);
+    if soundness::store_ok(store) {
+        Product::try_from(store[PRODUCT]).map_err(|_| DropReason::UnsoundStore)
+    } else {
+        Err(DropReason::UnsoundStore)
     }
-    Product::try_from(store[PRODUCT]).map_err(|_| DropReason::UnsoundStore)
 }
 
 // A message from the exchange.
@@ -117,7 +118,9 @@ pub fn power_on(store: &mut [u8], product: u8) -> Result<(), DropReason>
     if store.len() < STORE {
         return Err(DropReason::UnsoundStore);
     }
-    let built = Product::try_from(product).map_err(|_| DropReason::NotReported)?;
+    let Ok(built) = Product::try_from(product) else {
+        return Err(DropReason::NotReported);
+    };
     reset_command::write_fresh(store, built);
     Ok(())
 }
