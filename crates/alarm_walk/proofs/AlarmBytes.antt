@@ -1,21 +1,19 @@
 -- Alarms read from bytes, a byte to each key: how many bitmaps there are, and the n-th of them.
 use Prim.Native.Nat.{ℕ, zero, suc, ◌+◌, ◌-◌, ◌≤◌, ◌<◌}
 use native.Mathlib.Omega.{arith}
-use mathlib.Core.Path.{◌≡◌, refl, sym, ◌∙◌, ap}
+use mathlib.Core.Path.{◌≡◌, refl, ◌∙◌, ap}
 use mathlib.Core.Bool.{Bool, true, false, not}
 use mathlib.Core.Option.{none, some}
 use mathlib.Core.Logic.{◌≢◌}
 use mathlib.Core.List.{List, [], ◌∷◌}
-use lib.ListN.{length, drop, get_or, drop_of_length-le}
-use native.Mathlib.Numerals.{add-one}
-use lib.Seq.{drop-cons}
+use lib.ListN.{length, get_or}
 use lib.Dec.{eqb}
 use Rattle.std.specs.Prelude.{Option, Some, None, MatchOption, slice_get}
 use Rattle.std.specs.List.{filter, enumerate_from}
 use Rattle.rules.specs.Maps.{nth}
 use Rattle.rules.specs.Bytes.{byte, are_bytes}
 use Rattle.rules.specs.Legal.{some_on}
-use Rattle.rules.proofs.Laws.{cases, eqb_true, eqb_false}
+use Rattle.rules.proofs.Laws.{cases, eqb_false}
 use Rattle.rules.proofs.ByteLaws.{byte_small, bytes_drop}
 use Rattle.store.specs.Decode.{read_alarms}
 use Rattle.store.proofs.AlarmBits.{shown_by, on_byte}

@@ -1,8 +1,7 @@
 -- The drops of a report of an attribute: as the code tries them, and as the rules list them.
 use Prim.Native.Nat.{ℕ, ◌<◌}
-use native.Mathlib.Omega.{arith}
 use mathlib.Core.Path.{◌≡◌, refl, sym, ◌∙◌, ap}
-use mathlib.Core.Bool.{Bool, true, false, not}
+use mathlib.Core.Bool.{Bool, true, false}
 use mathlib.Core.Option.{Option, none, some}
 use mathlib.Core.Logic.{◌≢◌}
 use mathlib.Core.List.{List, []}
@@ -12,7 +11,7 @@ use Rattle.rules.specs.Catalogue.{Class, attribute, size_of}
 use Rattle.rules.specs.State.{State, holds, contents}
 use Rattle.rules.specs.Legal.{fixed_contents, legal_content}
 use Rattle.rules.specs.Reports.{attribute_drops}
-use Rattle.rules.proofs.Laws.{cases, not-true, not-false, both, eqb_true, eqb_false, eqb_eq}
+use Rattle.rules.proofs.Laws.{cases, not-false, both, eqb_true, eqb_false, eqb_eq}
 use Rattle.class_tables.specs.declared.Attribute.{Attribute}
 use Rattle.class_tables.specs.Built.{cat_of, class_for}
 use Rattle.class_tables.specs.Meaning.{reports, meaning}

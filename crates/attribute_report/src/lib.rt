@@ -94,10 +94,10 @@ pub fn report_attribute(
         (report_attribute (cat_of product) (state_in product store.old) class number attribute content.now) }
 {
     let n = u16::from(attribute);
-    let spot = instances::locate(&store[LIVE_AT..LIVE_END], product, class, number)
-        .ok_or(DropReason::NoSuchInstance)?;
+    let live = &store[LIVE_AT..LIVE_END];
+    let spot = instances::locate(live, product, class, number).ok_or(DropReason::NoSuchInstance)?;
     let a = attribute_tables::attribute_of(product, class, n);
-    content_drop(&store[LIVE_AT..LIVE_END], product, class, a, content, spot)?;
+    content_drop(live, product, class, a, content, spot)?;
     let is_new = write(&mut store[LIVE_AT..LIVE_END], spot + a.at, content);
     if is_new & a.avc {
         notify(reply, class, number, n, content);

@@ -31,7 +31,9 @@ pub fn delete(store: &mut [u8], product: Product, class: u16, number: u16) -> Re
     ensures { Leaves product (delete (cat_of product) (state_in product store.old) class number) store.old store.new (contents_of result (replicate 32 0)) }
 {
     let key = octets::key_of(class, number);
-    let j = table::place_of(&store[LIVE_AT..LIVE_END], key).ok_or(Refusal::UnknownInstance)?;
+    let Some(j) = table::place_of(&store[LIVE_AT..LIVE_END], key) else {
+        return Err(Refusal::UnknownInstance);
+    };
     take_out(&mut store[LIVE_AT..LIVE_END], j);
     Ok(())
 }

@@ -29,6 +29,7 @@ use Rattle.message_frame.specs.Drops.{drop_number}
 use Rattle.message_frame.specs.declared.drops.DropReason.{DropReason}
 use Rattle.message_frame.specs.declared.drops.DropReason.TheVariants as reason
 use Rattle.outcome.specs.Outcomes.{left_by, leaves}
+use Rattle.outcome.specs.declared.Outcome.{Outcome}
 use Rattle.class_tables.specs.declared.Product.{Product}
 use Rattle.class_tables.specs.declared.NotBuilt.{NotBuilt}
 use native.Mathlib.Omega.{arith}
@@ -118,11 +119,12 @@ module _ (room : ℕ) (b : List ℕ) where
 -- ---- and what it then does
 
 module _ (c : Call) (b buffer : List ℕ) where
-  pub first_dropped : {d : DropReason} → first_that_applies (first_drops (length buffer) b) ≡ some (drop_number d) → left_by (Err d) b buffer ≡ enter built_products c b buffer
+  pub first_dropped : {d : DropReason} → first_that_applies (first_drops (length buffer) b) ≡ some (drop_number d) → {r : Result Outcome DropReason} → r ≡ Err d
+      → left_by r b buffer ≡ enter built_products c b buffer
   unfolding enter refuse sound first_that_applies
-  first_dropped {d = d} e = cases (ltb (length buffer) reply_length)
+  first_dropped {d} e is = rw is (cases (ltb (length buffer) reply_length)
       (λ y. let z : 1 ≡ drop_number d = some_eq (rw y at e) in rw (← z, y) refl)
-      (λ y. go (decode built_products b) refl (rw y at e) y)
+      (λ y. go (decode built_products b) refl (rw y at e) y))
     where
       go : (o : Option Held) → decode built_products b ≡ o → first_that_applies ((not (is_some (decode built_products b)), 2) ∷ []) ≡ some (drop_number d)
           → ltb (length buffer) reply_length ≡ false → left_by (Err d) b buffer ≡ enter built_products c b buffer

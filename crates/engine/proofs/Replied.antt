@@ -25,6 +25,7 @@ use Rattle.store.proofs.StateLaid.{memory_laid}
 use Rattle.class_tables.specs.Built.{cat_of, product_of}
 use Rattle.class_tables.proofs.EveryProduct.{well_formed_of}
 use Rattle.sound_store.specs.Held.{state_in, Sound, stored, Leaves}
+use Rattle.std.specs.Prelude.{Ok}
 use Rattle.outcome.specs.declared.Outcome.TheVariants.{Answered}
 use Rattle.outcome.specs.Outcomes.{left_by, leaves}
 use Rattle.class_tables.specs.declared.Product.{Product}
@@ -110,7 +111,7 @@ module _ (pr : Product) (b m reply : List ℕ) (h : Sound pr b) (bs : are_bytes 
 
   pub answered_and_remembered : {x out b1 memory : List ℕ} → x ≡ begun → Leaves pr answering b b1 out
       → memory ≡ 1 ∷ take command_length m ++ take reply_length (put_mid 8 32 x out)
-      → left_by Answered (put_mid memory_at (1 + memory_length) b1 memory) (put_mid 8 32 x out) ≡ leaves pr (state_in pr b) b reply (answer_anew (cat_of pr) (state_in pr b) m)
+      → left_by (Ok Answered) (put_mid memory_at (1 + memory_length) b1 memory) (put_mid 8 32 x out) ≡ leaves pr (state_in pr b) b reply (answer_anew (cat_of pr) (state_in pr b) m)
   unfolding leave written answer_anew stored
   answered_and_remembered {x = x} {out = out} {b1 = b1} {memory = memory} e q f =
       let whole : put_mid 8 32 x out ≡ sent ++ drop 48 reply = filled x out e q.reply in

@@ -1,5 +1,7 @@
 // The engine for C: thin over the entries, one number for each outcome. include/gwezhelin.h tells a firmware engineer the same;
 // gwezhelin_c exports these functions.
+#![tactic(auto)]
+
 ghost use Rattle.std.specs.Prelude.{◌≡◌, not, [], eqb};
 ghost use Rattle.rules.specs.Run.{message, attribute_report, alarm_report, store_length};
 ghost use Rattle.rules.specs.Products.{built_products};
@@ -7,26 +9,27 @@ ghost use Rattle.store.specs.Entries.{enter, power_on};
 ghost use Rattle.outcome.specs.Outcomes.{outcome_of, started_of};
 ghost use Rattle.gwezhelin.specs.Numbers.{number_for, start_number_for, Returns, StartReturns};
 
-use outcome::{Outcome, Started};
+use message_frame::drops::DropReason;
+use outcome::Outcome;
 
-// An outcome's number: 0 for a message to send, 255 for nothing to send, else the drop.
-fn number(o: Outcome) -> u8
-    ensures { result ≡ number_for (outcome_of o []) }
+// A call's number: 0 for a message to send, 255 for nothing to send, else the drop.
+fn number(called: Result<Outcome, DropReason>) -> u8
+    ensures { result ≡ number_for (outcome_of called []) }
 {
-    match o {
-        Outcome::Answered => 0,
-        Outcome::Quiet => 255,
-        Outcome::Dropped(n) => n,
+    match called {
+        Ok(Outcome::Answered) => 0,
+        Ok(Outcome::Quiet) => 255,
+        Err(dropped) => u8::from(dropped),
     }
 }
 
 // A power-on's number: 0, or the drop.
-fn start_number(o: Started) -> u8
-    ensures { result ≡ start_number_for (started_of o) }
+fn start_number(started: Result<(), DropReason>) -> u8
+    ensures { result ≡ start_number_for (started_of started) }
 {
-    match o {
-        Started::Fresh => 0,
-        Started::Dropped(n) => n,
+    match started {
+        Ok(()) => 0,
+        Err(reason) => u8::from(reason),
     }
 }
 

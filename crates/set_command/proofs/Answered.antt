@@ -5,7 +5,7 @@ use mathlib.Core.Path.{◌≡◌, refl, sym, ◌∙◌, ap}
 use mathlib.Core.Bool.{true}
 use mathlib.Core.Option.{Option, none, some}
 use mathlib.Core.List.{List, [], ◌∷◌}
-use lib.ListN.{length, drop, replicate, set, length-drop}
+use lib.ListN.{length, drop, length-drop}
 use lib.Seq.{take_all}
 use lib.Dec.{eqb}
 use Rattle.rules.specs.Maps.{given, is_some, keys, rising, first_that_applies}
@@ -39,7 +39,7 @@ use Rattle.attribute_write.proofs.TableWritten.{table_laid}
 use Rattle.table.specs.Counts.{moved_on}
 use Rattle.table.proofs.Counted.{counter_moved}
 use Rattle.sound_store.specs.Held.{state_in, Sound, Leaves}
-use Rattle.sound_store.proofs.Held.{as_stored, live_is, live_held, live_shaped, live_opened, live_changed, refused_with}
+use Rattle.sound_store.proofs.Held.{as_stored, live_is, live_held, live_shaped, live_opened, live_changed, told}
 use Rattle.sound_store.proofs.LiveTable.{created_keys}
 use Rattle.set_command.specs.Sets.{refusing, counted_by, written, live_in, values_in, SetAt}
 use Rattle.set_command.proofs.Refused.{Passed, passed}
@@ -74,9 +74,9 @@ module _ (pr : Product) (b : List ℕ) (h : Sound pr b) (c i : ℕ) (lt : i < 65
   -- ---- it isn't there
 
   module _ (v : List ℕ) where
-    pub refused_absent : sought ≡ none → (out : List ℕ) → out ≡ replicate 32 0 → Leaves pr (commands.set cat s c i v) b b (set out 0 unknown_instance)
+    pub refused_absent : sought ≡ none → Leaves pr (commands.set cat s c i v) b b (fill 32 (unknown_instance ∷ []))
     unfolding commands.set set_results unless_refused first_that_applies
-    refused_absent p out z = rw (held_if_found p) (refused_with pr b h unknown_instance out z)
+    refused_absent p = rw (held_if_found p) (told pr b h (unknown_instance ∷ []))
 
   -- ---- it is there
 

@@ -3,18 +3,18 @@ use Prim.Native.Nat.{ℕ, ◌+◌, ◌≤◌, ◌<◌}
 use native.Mathlib.Omega.{arith}
 use mathlib.Core.Path.{◌≡◌, refl, sym, ◌∙◌, ap}
 use mathlib.Core.Bool.{true}
-use mathlib.Core.Option.{some}
+use mathlib.Core.Option.{none}
 use mathlib.Core.Logic.{◌≢◌}
-use mathlib.Core.List.{List, [], ◌∷◌, ◌++◌}
-use lib.ListN.{length, take, drop, set, replicate, length-drop}
+use mathlib.Core.List.{List, [], ◌∷◌}
+use lib.ListN.{length, drop, replicate, length-drop}
 use lib.Seq.{length-take-le}
 use lib.Dec.{eqb}
 use borrow.Rule.Slice.PartMut.{put_mid}
 use Rattle.rules.specs.Maps.{◌and◌, among, all, empty, those}
-use Rattle.rules.specs.Bytes.{byte, two, bytes, fill, laid}
+use Rattle.rules.specs.Bytes.{byte, two, laid}
 use Rattle.rules.specs.Masks.{named}
 use Rattle.rules.specs.Catalogue.{Class, attribute, supported, size_of, is_stored, stored_numbers, ont_data}
-use Rattle.rules.specs.Messages.{attribute_failed, next_number}
+use Rattle.rules.specs.Messages.{next_number}
 use Rattle.rules.specs.Commands.{cut, unsupported, unwritable}
 use Rattle.rules.specs.WellFormed.{rights_only_if_stored}
 use Rattle.rules.proofs.Laws.{cases, never, or_left, eqb_true, eqb_false}
@@ -27,9 +27,7 @@ use Rattle.class_tables.proofs.Offsets.{is_among_stored}
 use Rattle.attribute_write.specs.Lays.{laid_values, all_stored, Laying}
 use Rattle.attribute_write.proofs.Overwritten.{cut_is_sized, length_laid_values}
 use Rattle.table.specs.Counts.{moved_on}
-use Rattle.set_command.specs.declared.SetRefusal.{SetRefusal}
-use Rattle.set_command.specs.declared.SetRefusal.TheVariants.{Accepted}
-use Rattle.set_command.specs.Sets.{bad_at, set_contents, refusing, counted_by, written, live_in, values_in, SetAt}
+use Rattle.set_command.specs.Sets.{bad_at, refusing, counted_by, written, live_in, values_in, SetAt}
 use Rattle.set_command.proofs.Refused.{Passed, passed}
 use Rattle.class_tables.specs.declared.Product.{Product}
 
@@ -83,44 +81,23 @@ module _ (pr : Product) (c at m : ℕ) (v b : List ℕ) where
         (λ e. rw e length_values)
         (λ e. let lv = length_values in rw e (length_laid 0 (next_number (byte values 0) ∷ []) values (omega arith) ∙ lv))
 
--- ---- the replies
-
-pub half_failed : (out : List ℕ) (m : ℕ) {x : List ℕ} → out ≡ replicate 32 0 → x ≡ take 1 (set out 0 9) ++ (bytes 2 m ++ drop 3 (set out 0 9)) → length x ≡ 32
-unfolding bytes
-half_failed out m z e = ap length (e ∙ ap (λ (o : List ℕ). take 1 (set o 0 9) ++ (bytes 2 m ++ drop 3 (set o 0 9))) z)
-
-pub put_failed_is : (out : List ℕ) (m n : ℕ) {x y : List ℕ} → out ≡ replicate 32 0 → x ≡ take 1 (set out 0 9) ++ (bytes 2 m ++ drop 3 (set out 0 9))
-    → y ≡ take 3 x ++ (bytes 2 n ++ drop 5 x) → y ≡ fill 32 (attribute_failed ∷ bytes 2 m ++ bytes 2 n)
-unfolding bytes
-put_failed_is out m n z e f =
-    f ∙ ap (λ (x : List ℕ). take 3 x ++ (bytes 2 n ++ drop 5 x)) (e ∙ ap (λ (o : List ℕ). take 1 (set o 0 9) ++ (bytes 2 m ++ drop 3 (set o 0 9))) z)
-
 -- ---- a Set of an instance that is there
 
-refused_with : (pr : Product) (c at : ℕ) (v store x : List ℕ) {out : List ℕ} → some x ≡ refusing pr c at (two v 0) (values_in v) (live_in store) → out ≡ fill 32 x
-    → SetAt pr c at v store store out
-refused_with pr c at v store x e o = record { store = rw (← e) refl; reply = rw (← e) o }
+module _ (pr : Product) (c at : ℕ) (v store : List ℕ) {m : ℕ} (is : m ≡ two v 0)
+    (e : none ≡ refusing pr c at m (values_in v) (live_in store)) (long : length v ≡ 32) (room : at + contents_width (class_for pr c) ≤ length (live_in store)) where
+  pub accepted_lays : Laying (class_for pr c) at (named m) (values_in v) (live_in store)
+  unfolding refusing
+  accepted_lays =
+      may_lay pr c (passed (class_for pr c) m (bad_at pr c at m (values_in v) (live_in store)) (sym e))
+      room (length-take-le 30 (drop 2 v) (rw (length-drop 2 v) (omega arith)))
 
-module _ (pr : Product) (c at : ℕ) (v store : List ℕ) {m : ℕ} (is : m ≡ two v 0) {r : SetRefusal} (found : set_contents r ≡ refusing pr c at m (values_in v) (live_in store)) where
-  refusal_is : {w : SetRefusal} → r ≡ w → set_contents w ≡ refusing pr c at (two v 0) (values_in v) (live_in store)
-  refusal_is e = ap set_contents (sym e) ∙ found ∙ ap (λ (n : ℕ). refusing pr c at n (values_in v) (live_in store)) is
-
-  pub with_refusal : {w : SetRefusal} {x out : List ℕ} → some x ≡ set_contents w → r ≡ w → out ≡ fill 32 x → SetAt pr c at v store store out
-  with_refusal {x = x} f e o = refused_with pr c at v store x (f ∙ refusal_is e) o
-
-  module _ (e : r ≡ Accepted) (long : length v ≡ 32) (room : at + contents_width (class_for pr c) ≤ length (live_in store)) where
-    pub accepted_lays : Laying (class_for pr c) at (named m) (values_in v) (live_in store)
-    unfolding refusing
-    accepted_lays =
-        may_lay pr c (passed (class_for pr c) m (bad_at pr c at m (values_in v) (live_in store)) (sym found ∙ ap set_contents e))
-        room (length-take-le 30 (drop 2 v) (rw (length-drop 2 v) (omega arith)))
-
-    pub as_accepted : {y out : List ℕ} → length (live_in store) ≡ block_length → y ≡ written pr c at m (values_in v) (live_in store) → out ≡ replicate 32 0
-        → SetAt pr c at v store (put_mid live_at block_length store y) out
-    as_accepted {y} whole w z =
-        let len : length y ≡ block_length = ap length w ∙ length_written pr c at m (values_in v) (live_in store) accepted_lays (omega arith) ∙ whole in
-        let w' : y ≡ written pr c at (two v 0) (values_in v) (live_in store) = w ∙ ap (λ (n : ℕ). written pr c at n (values_in v) (live_in store)) is in
-        record {
-          store = rw (← refusal_is e) (laid_part live_at block_length y store len ∙ ap (λ (x : List ℕ). laid live_at x store) w');
-          reply = rw (← refusal_is e) z;
-        }
+  pub accepted_at : {y : List ℕ} → length (live_in store) ≡ block_length → y ≡ written pr c at m (values_in v) (live_in store)
+      → SetAt pr c at v store (put_mid live_at block_length store y) (replicate 32 0)
+  accepted_at {y} whole w =
+      let none_as_asked : none ≡ refusing pr c at (two v 0) (values_in v) (live_in store) = e ∙ ap (λ (n : ℕ). refusing pr c at n (values_in v) (live_in store)) is in
+      let len : length y ≡ block_length = ap length w ∙ length_written pr c at m (values_in v) (live_in store) accepted_lays (omega arith) ∙ whole in
+      let w' : y ≡ written pr c at (two v 0) (values_in v) (live_in store) = w ∙ ap (λ (n : ℕ). written pr c at n (values_in v) (live_in store)) is in
+      record {
+        store = rw (← none_as_asked) (laid_part live_at block_length y store len ∙ ap (λ (x : List ℕ). laid live_at x store) w');
+        reply = rw (← none_as_asked) refl;
+      }

@@ -3,10 +3,9 @@ use Prim.Native.Nat.{ℕ, ◌+◌, ◌*◌, ◌-◌, ◌/◌, ◌%◌, ◌≤◌
 use native.Mathlib.Nat.{mul-zero, mul-le-mul, mod-lt, div-lt_iff_lt-mul}
 use native.Mathlib.Omega.{arith}
 use mathlib.Core.Path.{◌≡◌, refl, sym, ◌∙◌, ap}
-use mathlib.Core.Logic.{◌≢◌}
 use mathlib.Core.Option.{Option, none, some}
 use mathlib.Core.List.{List, []}
-use lib.ListN.{length, drop, get_or, length-map, get_or-eq_default}
+use lib.ListN.{length, drop, get_or, length-map}
 use lib.Dec.{ltb}
 use Rattle.rules.specs.Maps.{given, nth, gather, keys, all, rising, ◌and◌}
 use Rattle.rules.specs.Masks.{named, mask}
@@ -18,12 +17,14 @@ use Rattle.rules.proofs.MapLaws.{length_gather}
 use Rattle.class_tables.specs.Built.{cat_of, class_for}
 use Rattle.table.specs.Places.{InShape, keys_in}
 use Rattle.upload_sections.specs.Sections.{numbers_in, instance_sections, class_sections, sections_in}
-use Rattle.class_tables.proofs.Facts.{few_sections, sections_in_order, numbered_above_0}
+use Rattle.class_tables.proofs.Facts.{few_sections, sections_in_order}
 use Rattle.upload_sections.proofs.EntryLaws.{all_keys, numbers_are, numbers_length, led_few, few_entries}
 use Rattle.upload_sections.proofs.Gathered.{nth_there, all_at, nth_gather, counted_more, within_this, past_this, past_all, gather_end}
 use Rattle.class_tables.specs.declared.Product.{Product}
 use Rattle.bits.proofs.Masks.{named_mask, rising_within, is_attribute}
 use Rattle.store.specs.Layout.{slot_count, place_count}
+use Rattle.std.specs.Prelude.{slice_get, Some, None}
+use Rattle.std.proofs.lemmas.Option.{none-some, slice_get-get_or, slice_get_within, get_or_from_slice_get}
 
 -- the section with these attributes
 abbrev pub shown : ℕ → ℕ → List ℕ → rules.Section
@@ -96,19 +97,10 @@ module _ (pr : Product) (b : List ℕ) where
   abbrev pub class_list : List ℕ
   class_list = keys (cat_of pr).classes
 
-  -- 0 stands for none past the last class, and is no class's number
-  module _ (j : ℕ) {d : ℕ} (e : d ≡ get_or class_list j 0) where
-    pub another_class : d ≢ 0 → j < length class_list
-    another_class there = cases (ltb j (length class_list))
-        (λ t. ltb_lt j (length class_list) t)
-        (λ t. absurd (there (e ∙ get_or-eq_default class_list 0 (ltb_le j (length class_list) t))))
-
-    pub no_more_classes : d ≡ 0 → length class_list ≤ j
-    no_more_classes z = cases (ltb j (length class_list))
-        (λ t.
-        let above = ltb_lt 0 (get_or class_list j 0) (all_at (λ c. ltb 0 c) 0 class_list j (numbered_above_0 pr) (ltb_lt j (length class_list) t)) in
-        absurd (omega arith))
-        (λ t. ltb_le j (length class_list) t)
+  pub no_more_classes : (j : ℕ) → None ≡ slice_get class_list j → length class_list ≤ j
+  no_more_classes j e = cases (ltb j (length class_list))
+      (λ t. absurd (none-some _ (e ∙ slice_get-get_or class_list j 0 (ltb_lt j (length class_list) t))))
+      (λ t. ltb_le j (length class_list) t)
 
   -- the sections of the classes from the j-th on
   abbrev pub sections_on : ℕ → List rules.Section
@@ -118,16 +110,22 @@ module _ (pr : Product) (b : List ℕ) where
   unfolding sections_in
   all_sections = refl
 
-  module _ (j : ℕ) {d m : ℕ} (e : d ≡ get_or class_list j 0) (f : m ≡ length (class_sections (cat_of pr) (keys_in b) d)) (h : j < length class_list) where
+  module _ (j : ℕ) {d m : ℕ} (e : Some d ≡ slice_get class_list j) (f : m ≡ length (class_sections (cat_of pr) (keys_in b) d)) where
+    h : j < length class_list
+    h = slice_get_within class_list j d (sym e)
+
+    its_class : d ≡ get_or class_list j 0
+    its_class = sym (get_or_from_slice_get class_list j d 0 (sym e))
+
     its_length : m ≡ length (class_sections (cat_of pr) (keys_in b) (get_or class_list j 0))
-    its_length = f ∙ ap (λ (k : ℕ). length (class_sections (cat_of pr) (keys_in b) k)) e
+    its_length = f ∙ ap (λ (k : ℕ). length (class_sections (cat_of pr) (keys_in b) k)) its_class
 
     pub total_more : length (sections_on j) ≡ m + length (sections_on (j + 1))
     total_more = counted_more (class_sections (cat_of pr) (keys_in b)) class_list j h ∙ ap (λ (k : ℕ). k + length (sections_on (j + 1))) (sym its_length)
 
     pub in_this_class : (left : ℕ) {x o : Option rules.Section} → nth (sections_on j) left ≡ x → left < m → o ≡ nth (class_sections (cat_of pr) (keys_in b) d) left → o ≡ x
     in_this_class left q lt w =
-        w ∙ ap (λ (k : ℕ). nth (class_sections (cat_of pr) (keys_in b) k) left) e
+        w ∙ ap (λ (k : ℕ). nth (class_sections (cat_of pr) (keys_in b) k) left) its_class
         ∙ within_this (class_sections (cat_of pr) (keys_in b)) class_list j left q h (let z = its_length in omega arith)
 
     pub in_a_later_class : (left : ℕ) {x : Option rules.Section} → nth (sections_on j) left ≡ x → m ≤ left → nth (sections_on (j + 1)) (left - m) ≡ x

@@ -1,6 +1,7 @@
 -- The sections of a table whose created instances have these keys: only the keys decide which there are, and where their instances are.
-use Rattle.std.specs.Prelude.{ℕ, ◌+◌, ◌-◌, ◌<◌, ◌≡◌, cond, List, ◌++◌, map, length, get_or, eqb, ltb}
-use Rattle.std.proofs.Math.Option.{Option, none, some}
+use Rattle.std.specs.Prelude.{ℕ, ◌+◌, ◌-◌, ◌<◌, ◌≡◌, cond, List, ◌++◌, map, length, get_or, eqb, ltb, Option, Some, None}
+use Rattle.std.proofs.Math.Option as rules_option
+use Rattle.std.proofs.Math.Option.{none, some}
 use Rattle.rules.specs.Maps.{keys, gather, those, nth}
 use Rattle.rules.specs.Masks.{named}
 use Rattle.rules.specs.Catalogue.{Catalogue, class, leader}
@@ -10,8 +11,7 @@ use Rattle.rules.specs.Walks as rules
 use Rattle.rules.specs.Walks.{sections_of}
 use Rattle.store.specs.Layout.{slot_at, place_at, key_length}
 use Rattle.store.specs.Positions.{inside}
-use Rattle.upload_sections.specs.declared.Section.{Section}
-use Rattle.upload_sections.specs.declared.Section.TheVariants.{At, Nothing}
+use Rattle.table.specs.declared.Shown.{Shown}
 
 -- the keys of the entries: those that are there by themselves, then the created ones
 abbrev pub entry_keys : Catalogue → List ℕ → List ℕ
@@ -50,16 +50,16 @@ unfoldable pub sections_in : Catalogue → List ℕ → List rules.Section
 sections_in cat made = gather (class_sections cat made) (keys cat.classes)
 
 -- what the code found
-abbrev pub section_of : Section → Option rules.Section
-section_of (At c i o m) = some (record { of_class = c; of_instance = i; shows = named m })
-section_of Nothing = none
+abbrev pub section_of : Option Shown → rules_option.Option rules.Section
+section_of (Some x) = some (record { of_class = x.class; of_instance = x.number; shows = named x.mask })
+section_of None = none
 
 -- it carries the place of its instance
-abbrev pub Carries : Catalogue → List ℕ → Section → Type 0
-Carries cat made (At c i o m) = BeginsAt cat made c i o
-Carries cat made Nothing = Unit {0}
+abbrev pub Carries : Catalogue → List ℕ → Option Shown → Type 0
+Carries cat made (Some x) = BeginsAt cat made x.class x.number x.at
+Carries cat made None = Unit {0}
 
 -- the n-th of these sections
-pub record Found (cat : Catalogue) (made : List ℕ) (l : List rules.Section) (n : ℕ) (r : Section) : Type 0 where
+pub record Found (cat : Catalogue) (made : List ℕ) (l : List rules.Section) (n : ℕ) (r : Option Shown) : Type 0 where
   pub is : section_of r ≡ nth l n
   pub carries : Carries cat made r

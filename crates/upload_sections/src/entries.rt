@@ -11,7 +11,7 @@ use class_tables::{Instance, Product, classes, slots};
 use store::layout::{KEY, PLACE, PLACES, SLOT, SLOTS};
 
 // An instance of a class: its number, and where its contents begin in the block.
-#[derive(Clone, Copy)]
+#[derive(Clone, Copy, Debug, PartialEq, Eq)]
 pub struct Spot {
     pub number: u16,
     pub at: usize,
@@ -49,12 +49,10 @@ pub fn instance_count(b: &[u8], product: Product, class: u16) -> usize
     let leader = classes::leader_of(product, class);
     let n = entry_count(b, product);
     let mut count: usize = 0;
-    let mut i = 0;
-    while i < n {
+    for i in 0..n {
         if entry_at(b, product, i).class == leader {
             count += 1;
         }
-        i += 1;
     }
     count
 }
@@ -79,8 +77,7 @@ pub fn instance_at(b: &[u8], product: Product, class: u16, j: usize) -> Spot
     let leader = classes::leader_of(product, class);
     let n = entry_count(b, product);
     let mut left = j;
-    let mut i = 0;
-    while i < n {
+    for i in 0..n {
         let e = entry_at(b, product, i);
         if e.class == leader {
             if left == 0 {
@@ -91,8 +88,7 @@ pub fn instance_at(b: &[u8], product: Product, class: u16, j: usize) -> Spot
             }
             left -= 1;
         }
-        i += 1;
     }
-    // there are more than j
-    Spot { number: 0, at: 0 }
+    // the class has more than j instances
+    unreachable!()
 }

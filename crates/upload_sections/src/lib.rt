@@ -3,7 +3,7 @@
 pub mod cuts;
 pub mod entries;
 
-ghost use Rattle.std.specs.Prelude.{◌≡◌, ◌<◌, length};
+ghost use Rattle.std.specs.Prelude.{◌≡◌, ◌<◌, Some, length};
 ghost use Rattle.rules.specs.Walks.{sections_of};
 ghost use Rattle.class_tables.specs.Built.{cat_of, class_for};
 ghost use Rattle.table.specs.Places.{InShape, keys_in};
@@ -12,18 +12,7 @@ ghost use Rattle.class_tables.specs.declared.Product.{Product};
 
 use class_tables::classes::MOST_CLASSES;
 use class_tables::{Product, classes};
-
-#[derive(Clone, Copy)]
-pub enum Section {
-    // a section of this instance, whose contents begin at `at`; it shows the attributes of this mask
-    At {
-        class: u16,
-        number: u16,
-        at: usize,
-        mask: u16,
-    },
-    Nothing,
-}
+use table::Shown;
 
 // How many sections the instances of a class have, each of which has so many.
 fn class_total(b: &[u8], product: Product, class: u16, each: usize) -> usize
@@ -39,52 +28,43 @@ pub fn section_total(b: &[u8], product: Product) -> usize
     ensures { result ≡ length (sections_in (cat_of product) (keys_in b.now)) }
 {
     let mut total = 0;
-    let mut j = 0;
-    while j < MOST_CLASSES {
-        let class = classes::class_at(product, j);
-        if class == 0 {
+    for j in 0..MOST_CLASSES {
+        let Some(class) = classes::class_at(product, j) else {
             return total;
-        }
+        };
         total += class_total(b, product, class, cuts::section_count(product, class));
-        j += 1;
     }
     total
 }
 
 // The n-th section of a class's instances, each of which has so many.
-fn class_section(b: &[u8], product: Product, class: u16, each: usize, n: usize) -> Section
+fn class_section(b: &[u8], product: Product, class: u16, each: usize, n: usize) -> Shown
     requires { InShape b.now × (each ≡ length (sections_of (class_for product class))) × (n < length (class_sections (cat_of product) (keys_in b.now) class)) }
-    ensures { Found (cat_of product) (keys_in b.now) (class_sections (cat_of product) (keys_in b.now) class) n result }
+    ensures { Found (cat_of product) (keys_in b.now) (class_sections (cat_of product) (keys_in b.now) class) n (Some result) }
 {
     let spot = entries::instance_at(b, product, class, n / each);
-    let mask = cuts::section_mask(product, class, n % each);
-    Section::At {
+    Shown {
         class,
         number: spot.number,
         at: spot.at,
-        mask,
+        mask: cuts::section_mask(product, class, n % each),
     }
 }
 
-// The n-th section of the table in a block.
-pub fn section_at(b: &[u8], product: Product, n: usize) -> Section
+// The n-th section of the table in a block, if it has as many.
+pub fn section_at(b: &[u8], product: Product, n: usize) -> Option<Shown>
     requires { InShape b.now }
     ensures { Found (cat_of product) (keys_in b.now) (sections_in (cat_of product) (keys_in b.now)) n result }
 {
     let mut left = n;
-    let mut j = 0;
-    while j < MOST_CLASSES {
-        let class = classes::class_at(product, j);
-        if class == 0 {
-            return Section::Nothing;
-        }
+    for j in 0..MOST_CLASSES {
+        let class = classes::class_at(product, j)?;
         let each = cuts::section_count(product, class);
         let some = class_total(b, product, class, each);
         if left < some {
-            return class_section(b, product, class, each, left);
+            return Some(class_section(b, product, class, each, left));
         }
         left -= some;
-        j += 1;
     }
-    Section::Nothing
+    None
 }

@@ -1,20 +1,12 @@
 use native.Mathlib.Omega.{arith}
 use mathlib.Core.Path.{sym, ◌∙◌}
 use lib.ListN.{length-set, length-take}
-use Rattle.rules.proofs.Laws.{not-true, not-false}
 use Rattle.class_tables.proofs.SlotLaws.{few_slots}
 use Rattle.alarm_walk.proofs.Shown.{blank_length}
 use Rattle.alarm_walk.proofs.Walked.{nothing_frozen, length_frozen, all_frozen}
 use borrow.Author.Rules.{rules}
 use Rattle.alarm_walk.proofs.all_alarms.Statement.{statement}
 use Rattle.alarm_walk.proofs.all_alarms.Tie as tie
-use Rattle.alarm_walk.proofs.all_alarms.Reads as reads
-use Rattle.alarm_walk.proofs.all_alarms.Lts as lts
-use Rattle.alarm_walk.proofs.how_many_on.Reads as how_many_on_reads
-use Rattle.class_tables.proofs.classes.is_ont_data.Reads as is_ont_data_reads
-use Rattle.class_tables.proofs.slots.slots.Reads as slots_reads
-use Rattle.octets.proofs.freeze.Reads as freeze_reads
-use Rattle.octets.proofs.put_number.Reads as put_number_reads
 
 returns : tie.Need-returns-then-not-is_ont_data
 returns c =

@@ -4,9 +4,6 @@ use Rattle.alarm_walk.proofs.Shown.{blank_length, one_length, two_length, all_wr
 use borrow.Author.Rules.{rules}
 use Rattle.alarm_walk.proofs.show.Statement.{statement}
 use Rattle.alarm_walk.proofs.show.Tie as tie
-use Rattle.alarm_walk.proofs.show.Reads as reads
-use Rattle.alarm_walk.proofs.show.Lts as lts
-use Rattle.octets.proofs.put_number.Reads as put_number_reads
 
 put_number_requires : tie.Need-put_number-requires
 put_number_requires c κs =

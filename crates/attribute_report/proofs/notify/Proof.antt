@@ -2,12 +2,6 @@ use Rattle.attribute_report.proofs.Notified.{notified}
 use borrow.Author.Rules.{rules}
 use Rattle.attribute_report.proofs.notify.Statement.{statement}
 use Rattle.attribute_report.proofs.notify.Tie as tie
-use Rattle.attribute_report.proofs.notify.Reads as reads
-use Rattle.attribute_report.proofs.notify.Lts as lts
-use Rattle.bits.proofs.bit_of.Reads as bit_of_reads
-use Rattle.message_frame.proofs.begin.Reads as begin_reads
-use Rattle.octets.proofs.copy_in.Reads as copy_in_reads
-use Rattle.octets.proofs.put_number.Reads as put_number_reads
 
 returns : tie.Need-returns
 returns c =

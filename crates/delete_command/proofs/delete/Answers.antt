@@ -1,7 +1,3 @@
-use mathlib.Core.Path.{◌≡◌}
-use Rattle.std.proofs.Common.{Err, arith}
-use Rattle.std.proofs.lemmas.Grind.{common_steps}
-use Rattle.outcome.specs.declared.refusals.Refusal.TheVariants.{UnknownInstance}
 use Rattle.sound_store.proofs.Held.{live_shaped}
 use Rattle.delete_command.proofs.Deleted.{as_found, refused, deleted, place_in_use}
 use Rattle.delete_command.proofs.delete.Goals as goal
@@ -14,20 +10,18 @@ take_out-requires c =
     let a = c.args in (
       live_shaped _ _ c.requires.0,
       place_in_use a.product a.store.now c.requires.0 a.class a.number c.ranges.number.fits c.requires.1 _
-          (as_found a.product a.store.now c.requires.0 a.class a.number c.ranges.number.fits c.requires.1 c.key_of-key.ensures c.place_of.ensures c.in_ok-j.ensures.ok_part),
+          (as_found a.product a.store.now c.requires.0 a.class a.number c.ranges.number.fits c.requires.1 c.key_of-key.ensures c.place_of.ensures c.in-Some.is),
     )
 
-pub returns-in_err-j : goal.returns-in_err-j
-returns-in_err-j c =
+pub returns-in_default : goal.returns-in_default
+returns-in_default c =
     let a = c.args in
-    let e : c.from_residual.result ≡ Err UnknownInstance = grind (arith, common_steps) in
-    rw e
-    (refused a.product a.store.now c.requires.0 a.class a.number c.ranges.number.fits c.requires.1
-    (as_found a.product a.store.now c.requires.0 a.class a.number c.ranges.number.fits c.requires.1 c.key_of-key.ensures c.place_of.ensures c.in_err-j.ensures.ok_part))
+    refused a.product a.store.now c.requires.0 a.class a.number c.ranges.number.fits c.requires.1
+    (as_found a.product a.store.now c.requires.0 a.class a.number c.ranges.number.fits c.requires.1 c.key_of-key.ensures c.place_of.ensures c.in_default.is)
 
 pub returns : goal.returns
 returns c =
     let a = c.args in
     rw c.take_out.ensures
     (deleted a.product a.store.now c.requires.0 a.class a.number c.ranges.number.fits c.requires.1 _
-    (as_found a.product a.store.now c.requires.0 a.class a.number c.ranges.number.fits c.requires.1 c.key_of-key.ensures c.place_of.ensures c.in_ok-j.ensures.ok_part))
+    (as_found a.product a.store.now c.requires.0 a.class a.number c.ranges.number.fits c.requires.1 c.key_of-key.ensures c.place_of.ensures c.in-Some.is))
