@@ -36,7 +36,7 @@ fn looked(product: Product, class: u16, n: u16, own: &[u8], at: usize) -> u16
     u16::from(own[at + begins::begin_of(product, class, n)])
 }
 
-// The number in the attribute of the same instance that a pointer is judged by; 0 if it is by none.
+// The number in the attribute of the same instance that a pointer is judged by. Where it is by none, `judge` asks the line and reads no number.
 fn condition_of(a: Attribute, product: Product, class: u16, own: &[u8], at: usize) -> u16
     requires { Judgeable (class_for product class) a × (at + contents_width (class_for product class) ≤ length own.now) }
     ensures { result ≡ looked_at a.rule a.only_if (fixed_at (class_for product class) own.now at) }
@@ -81,7 +81,8 @@ fn condition_met(product: Product, class: u16, only_if: Option<u16>, own: &[u8],
     }
 }
 
-// Is `v` a legal content of attribute n of an instance whose contents begin at `at` in `own`? It asks the tables for the rule alone.
+// Is `v` a legal content of attribute n of an instance whose contents begin at `at` in `own`? It asks the tables for the rule alone:
+// one function for this and `is_legal` was tried, and takes 143 instructions and more in a Delete and a Create, as it isn't put into the loop (D103).
 fn fits(live: &[u8], product: Product, class: u16, n: u16, v: &[u8], own: &[u8], at: usize) -> bool
     requires { InShape live.now × (1 ≤ n) × (n ≤ 16) × (length v.now ≡ size_of (class_for product class) n)
         × (at + contents_width (class_for product class) ≤ length own.now) }

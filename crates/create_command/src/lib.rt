@@ -65,7 +65,7 @@ fn new_place(r: &mut [u8], product: Product, class: u16, number: u16, v: &[u8])
     new_contents(&mut r[KEY..], product, class, v);
 }
 
-// The bit of what a Create carries, isn't kept, and isn't zero as it must be; 0: there is no such thing.
+// The mask of what a Create carries, isn't kept, and isn't zero as it must be: one attribute, or none.
 fn unkept_bit(product: Product, class: u16, v: &[u8]) -> u16
     requires { length v.now ≡ 32 }
     ensures { result ≡ mask (unkept_bad (class_for product class) v.now) }

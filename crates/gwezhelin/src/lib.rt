@@ -23,7 +23,7 @@ fn number(called: Result<Outcome, DropReason>) -> u8
     }
 }
 
-// A power-on's number: 0, or the drop.
+// A power-on's number: 0, or the drop. (A function for this and `number` would have to turn each result into a third one first.)
 fn start_number(started: Result<(), DropReason>) -> u8
     ensures { result ≡ start_number_for (started_of started) }
 {

@@ -29,7 +29,7 @@ pub fn first_section(product: Product, class: u16, remaining: u16) -> u16
     section
 }
 
-// How many sections an instance of a class has.
+// How many sections an instance of a class has. A `while`, since no index is counted: it ends when no attribute is left, and each turn takes as many as fit.
 pub fn section_count(product: Product, class: u16) -> usize
     ensures { result ≡ length (sections_of (class_for product class)) }
 {
