@@ -100,7 +100,8 @@ fn put_in(b: &mut [u8], j: usize, r: &[u8])
     counter::move_counter(b);
 }
 
-// Answers a Create of an instance that isn't there; its place would be the j-th.
+// Answers a Create of an instance that isn't there; its place would be the j-th. What a Create asks for travels as product, class, number and `v`: tried as one
+// struct, it needed ghost fields that its number and its bytes fit their types, beside the two facts that it would have kept.
 fn create_absent(
     store: &mut [u8],
     j: usize,

@@ -24,7 +24,6 @@ use Rattle.store.proofs.OfBytes.{encoding_is_bytes}
 use Rattle.class_tables.specs.Built.{cat_of, product_of}
 use Rattle.class_tables.proofs.EveryProduct.{well_formed_of, fits_of, product_small}
 use Rattle.octets.proofs.Parted.{part, part_before}
-use Rattle.store.proofs.StateLaid as laid_over
 use Rattle.sound_store.specs.Held.{Sound}
 use Rattle.sound_store.proofs.Held.{now, rest, in_parts, live_legal, alarms_are, walk_is}
 use Rattle.class_tables.specs.declared.Product.{Product}

@@ -4,7 +4,7 @@ use mathlib.Core.Path.{◌≡◌, refl, sym, ◌∙◌, ap}
 use mathlib.Core.Bool.{true}
 use mathlib.Core.Option.{none, some}
 use mathlib.Core.List.{List, [], ◌∷◌, ◌++◌}
-use lib.ListN.{take, drop, replicate, take-append-drop, set}
+use lib.ListN.{take, drop, replicate, take-append-drop}
 use lib.Seq.{take_at}
 use Rattle.rules.specs.Maps.{Map}
 use Rattle.rules.specs.Bytes.{laid, fill}
@@ -121,13 +121,6 @@ only_says pr b h a out e f = record { store = as_stored pr b h ∙ ap (λ s. sto
 -- a refusal changes nothing, and its bytes are the reply's first
 pub told : (pr : Product) (b : List ℕ) → Sound pr b → (r : List ℕ) → Leaves pr (state_in pr b, r) b b (fill 32 r)
 told pr b h r = only_says pr b h (state_in pr b, r) (fill 32 r) refl refl
-
--- contents that were all zero, with a result in front
-pub result_alone : (out : List ℕ) (r : ℕ) → out ≡ replicate 32 0 → set out 0 r ≡ fill 32 (r ∷ [])
-result_alone out r e = ap (λ (x : List ℕ). set x 0 r) e
-
-pub refused_with : (pr : Product) (b : List ℕ) → Sound pr b → (r : ℕ) (out : List ℕ) → out ≡ replicate 32 0 → Leaves pr (state_in pr b, r ∷ []) b b (set out 0 r)
-refused_with pr b h r out e = only_says pr b h (state_in pr b, r ∷ []) (set out 0 r) refl (result_alone out r e)
 
 -- ---- a store after a change is sound, and holds the new state
 
