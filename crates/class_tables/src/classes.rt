@@ -3,13 +3,14 @@ ghost use Rattle.std.specs.Prelude.{◌≡◌, slice_get, eqb};
 ghost use Rattle.rules.specs.Maps.{◌and◌, keys, among};
 ghost use Rattle.rules.specs.Catalogue.{ont_data, known, is_created, leader};
 ghost use Rattle.store.specs.Positions.{inside};
+ghost use Rattle.message_frame.specs.Commands.{command_number};
 ghost use Rattle.class_tables.specs.Built.{cat_of, class_for};
 ghost use Rattle.class_tables.specs.Families.{Companion};
 ghost use Rattle.class_tables.specs.Meaning.{unkept_of};
 
 use super::built::{by, provisioned};
 use super::{Product, Unkept};
-use message_frame::numbers::{CREATE, DELETE, GET, RESET, SET};
+use message_frame::commands::Command;
 
 // The class of the ONT data, whose instance 0 every product has: walks are asked of it, and its one attribute is the sync counter.
 pub const ONT_DATA: u16 = 2;
@@ -48,17 +49,18 @@ pub fn known(product: Product, class: u16) -> bool
     }
 }
 
-// Is the command with this message number for the class?
-pub fn allows(product: Product, class: u16, message: u8) -> bool
-    ensures { result ≡ among message (class_for product class).commands }
+// Is the command for the class?
+pub fn allows(product: Product, class: u16, command: Command) -> bool
+    ensures { result ≡ among (command_number command) (class_for product class).commands }
 {
     let changes = provisioned(product);
-    let set_or_get = (changes & (message == SET)) | (message == GET);
+    let set_or_get = (changes & (command == Command::Set)) | (command == Command::Get);
+    let create_or_delete = (command == Command::Create) | (command == Command::Delete);
     match class {
-        2 => set_or_get | (message == RESET),
+        2 => set_or_get | (command == Command::Reset),
         11 => set_or_get,
         46 => changes & set_or_get,
-        45 | 47 => changes & ((message == CREATE) | (message == DELETE) | set_or_get),
+        45 | 47 => changes & (create_or_delete | set_or_get),
         _ => false,
     }
 }

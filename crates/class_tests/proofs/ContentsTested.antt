@@ -1,5 +1,5 @@
 -- Contents that were read from bytes are legal exactly if the tests of their lines pass: one law for every class of every product.
-use Rattle.std.proofs.Common.{◌≡◌, ℕ, zero, suc, ◌+◌, ◌<◌, ◌≤◌, Bool, true, false, cond, eqb, ltb, leb, List, [], ◌∷◌, map, length, take, drop, sym, refl, ap, ◌∙◌, arith, drop-cons, drop-drop}
+use Rattle.std.proofs.Common.{◌≡◌, ℕ, suc, ◌+◌, ◌<◌, ◌≤◌, Bool, true, false, cond, eqb, ltb, leb, List, [], ◌∷◌, map, length, take, drop, sym, refl, ap, ◌∙◌, arith, drop-cons, drop-drop}
 use mathlib.Core.Option.{some}
 use Rattle.std.specs.Prelude.{Option, Some, None}
 use Rattle.rules.specs.Maps.{◌and◌, ◌or◌, Map, find, keys, keep, every, each, among, all}

@@ -1,5 +1,5 @@
 -- The UNIs of a product are the instances of class 11 that have a slot.
-use Rattle.std.proofs.Common.{◌≡◌, ℕ, ◌<◌, true, false, sym, refl, ap, ◌∙◌, arith}
+use Rattle.std.proofs.Common.{◌≡◌, ℕ, ◌<◌, true, refl, ap, ◌∙◌, arith}
 use Rattle.std.specs.Prelude.{Bool, Option, Some, None}
 use Rattle.std.specs.Prelude as code
 use Rattle.rules.specs.Maps.{is_some, among}

@@ -12,12 +12,11 @@ use class_tables::Product;
 use class_tables::built::{by, provisioned};
 use class_tables::slots::slot_of;
 
-// Is a number in a range, both ends in it? One comparison: what is below the range wraps to above it.
+// Is a number in a range, both ends in it? It compiles to one comparison.
 fn between(x: u16, low: u16, high: u16) -> bool
-    requires { low ≤ high }
     ensures { result ≡ (nat_le low x && nat_le x high) }
 {
-    x.wrapping_sub(low) <= high - low
+    (low..=high).contains(&x)
 }
 
 // A port's TPType, 1 or 2, with its TPPointer: of type 1 it names a UNI, which has a slot in this product, else it may be

@@ -18,11 +18,10 @@ ghost use Rattle.attribute_read.specs.Values.{values_at, Packable};
 ghost use Rattle.outcome.specs.Refusals.{contents_of};
 ghost use Rattle.get_command.specs.Gets.{get_contents, answer_at};
 
-use attribute_read::Shown;
 use class_tables::Product;
 use outcome::refusals::Refusal;
 use store::layout::{LIVE_AT, LIVE_END};
-use table::{Which, instances};
+use table::{Shown, Which, instances};
 
 // The most bytes that the reply to a Get has room for.
 const GET_ROOM: usize = 25;
@@ -79,7 +78,9 @@ pub fn get(
 {
     let mask = octets::number_at(v, 0);
     let b = &store[LIVE_AT..LIVE_END];
-    let at = instances::locate(b, product, class, number).ok_or(Refusal::UnknownInstance)?;
+    let Some(at) = instances::locate(b, product, class, number) else {
+        return Err(Refusal::UnknownInstance);
+    };
     get_at(
         b,
         product,

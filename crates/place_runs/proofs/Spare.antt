@@ -1,5 +1,5 @@
 -- The run of ports: what a port's test leaves out are the bytes of their places that are zero in every product, which are gathered.
-use Rattle.std.proofs.Common.{◌≡◌, ℕ, zero, suc, ◌+◌, ◌-◌, ◌*◌, ◌≤◌, Bool, true, false, cond, ◌&&◌, ltb, leb, List, length, take, drop, sym, refl, ◌∙◌, arith, drop-drop, length-drop, length-take-le, add-one}
+use Rattle.std.proofs.Common.{◌≡◌, ℕ, zero, suc, ◌+◌, ◌-◌, ◌*◌, ◌≤◌, Bool, true, false, cond, ◌&&◌, ltb, leb, List, length, drop, refl, arith, drop-drop, length-drop, length-take-le, add-one}
 use Rattle.std.specs.Bool.{then_some}
 use Rattle.std.specs.Prelude.{Option, Some, None}
 use Rattle.rules.specs.Maps.{◌and◌}

@@ -4,7 +4,7 @@ use Rattle.std.specs.Borrow.{Bor}
 use Rattle.std.specs.Fn.{Shared, FnReturnsAt}
 use Rattle.rules.specs.Maps.{◌and◌}
 use Rattle.rules.specs.Bytes.{all_zero}
-use Rattle.rules.specs.Catalogue.{Catalogue, key}
+use Rattle.rules.specs.Catalogue.{key}
 use Rattle.store.specs.Layout.{key_length, place_width, place_length, places_length, place_count}
 use Rattle.class_tests.specs.Tests.{port_front}
 use Rattle.place_runs.specs.Tests.{key_in}

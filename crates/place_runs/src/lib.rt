@@ -44,13 +44,7 @@ fn behind(r: &[u8], n: usize) -> &[u8]
 }
 
 // Where the run of a class from a place on ends, if each of its places is legal behind its key.
-fn run<F: Fn(&[u8]) -> bool>(
-    class: u16,
-    legal: F,
-    b: &[u8],
-    from: usize,
-    n: usize,
-) -> Option<usize>
+fn run<F: Fn(&[u8]) -> bool>(class: u16, legal: F, b: &[u8], from: usize, n: usize) -> Option<usize>
     requires class { class < 65535 }
     requires places { InPlaces b.now from n }
     requires legal { (c : _) → length c.now ≡ place_width → F.pre legal c }

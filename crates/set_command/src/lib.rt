@@ -112,7 +112,8 @@ pub fn set(
     ensures { Leaves product (set (cat_of product) (state_in product store.old) class number v.now)
         store.old store.new (contents_of result (replicate 32 0)) }
 {
-    let found = instances::locate(&store[LIVE_AT..LIVE_END], product, class, number);
-    let at = found.ok_or(Refusal::UnknownInstance)?;
+    let Some(at) = instances::locate(&store[LIVE_AT..LIVE_END], product, class, number) else {
+        return Err(Refusal::UnknownInstance);
+    };
     set_at(store, product, class, at, v)
 }

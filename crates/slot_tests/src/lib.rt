@@ -59,7 +59,9 @@ pub fn alarms_ok(product: Product, b: &[u8]) -> bool
     ensures { result ≡ alarms_test (cat_of product) (automatic_keys (cat_of product)) b.now }
 {
     match product {
-        Product::Large => b.iter().fold(true, |declared, x| declared & (*x % 128 == 0)),
+        Product::Large => b
+            .iter()
+            .fold(true, |declared, x| declared & (*x % 128 == 0)),
         Product::Small | Product::Meter => (b[0] % 128 == 0) & octets::zeros_from(b, 1),
     }
 }

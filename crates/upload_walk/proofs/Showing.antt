@@ -6,7 +6,6 @@ use mathlib.Core.List.{List, ◌++◌}
 use lib.ListN.{length, take, drop, length-append, length-drop}
 use lib.Seq.{length-take-le}
 use borrow.Rule.Slice.PartMut.{mid_of, put_mid}
-use Rattle.rules.specs.Maps.{all}
 use Rattle.rules.specs.Bytes.{bytes, laid}
 use Rattle.rules.specs.Masks.{named}
 use Rattle.octets.proofs.Laid.{laid_number, length_laid, laid_next, laid_in_part}

@@ -32,7 +32,7 @@ use Rattle.table.specs.Spots.{spot_among, spot}
 use Rattle.table.proofs.TableRead.{fronted}
 use Rattle.table.proofs.PlaceKeys.{in_shape, keys_read, live_keys}
 use Rattle.upload_sections.specs.Sections.{sections_in, Found}
-use Rattle.upload_sections.specs.declared.Section.TheVariants.{At}
+use Rattle.std.specs.Prelude.{Some}
 use Rattle.upload_sections.proofs.SectionsHeld.{sections_told}
 use Rattle.upload_sections.proofs.SectionsShow.{Shown, section_shown}
 use Rattle.upload_sections.proofs.SectionSpots.{SpotOf, at_its_spot}
@@ -160,7 +160,7 @@ module _ (pr : Product) (b : List ℕ) (h : Sound pr b) where
         ∙ sym (ap (λ (l : List ℕ). nth (sections_in cat l) n) keys_told) ∙ sym e
 
     -- a section that was found
-    module _ {n c i o k : ℕ} (f : Found cat (keys_in (frozen_block b)) (sections_in cat (keys_in (frozen_block b))) n (At c i o k)) where
+    module _ {n c i o k : ℕ} (f : Found cat (keys_in (frozen_block b)) (sections_in cat (keys_in (frozen_block b))) n (Some (record { class = c; number = i; at = o; mask = k }))) where
       there : SpotOf cat (keys_in (frozen_block b)) c i o
       there = at_its_spot cat wf (keys_in (frozen_block b)) (rw keys_told (opened m).legal.rise)
           (rw (keys_told, ← every_keys (λ j. is_created (class cat (class_of j)).creation) u.created) (opened m).legal.all_created) f.carries

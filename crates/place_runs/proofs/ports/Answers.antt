@@ -1,4 +1,4 @@
-use Rattle.std.proofs.Common.{◌≡◌, ◌+◌, ◌-◌, ◌≤◌, sym, ap, ◌∙◌, arith, rules, tests}
+use Rattle.std.proofs.Common.{◌-◌, sym, ap, ◌∙◌, arith, rules, tests}
 use Rattle.rules.specs.Catalogue.{key}
 use Rattle.class_tables.specs.Built.{cat_of}
 use Rattle.class_tests.specs.Tests.{front_test, port_front}

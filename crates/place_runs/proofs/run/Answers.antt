@@ -34,10 +34,10 @@ loop-i-preserved g c =
     let long : length x.now ≡ place_width = omega (arith, c.behind.ensures.1, c.place_at-r.ensures.1) in (
       omega (arith, key_below l.low c.key_at-k.result (key (suc a.class) 0) c.in_run.result tried (ap not c.if-not-in_run.false)),
       λ test says.
-      let tested = says.says x.now c.legal.result long (record { shown = x; shows = refl; says = record { met = c.legal.ensures } }) in
-      run_on test a.class a.b.now a.n l.i l.low (l.invariant.1 test says) (omega arith) c.place_at-r.result.now c.place_at-r.ensures.0
-      c.key_at-k.result c.key_at-k.ensures c.in_run.result tried (ap not c.if-not-in_run.false) x.now
-      c.behind.ensures.0 c.legal.result tested (ap not c.if-not-legal.false),
+          let tested = says.says x.now c.legal.result long (record { shown = x; shows = refl; says = record { met = c.legal.ensures } }) in
+          run_on test a.class a.b.now a.n l.i l.low (l.invariant.1 test says) (omega arith) c.place_at-r.result.now c.place_at-r.ensures.0
+          c.key_at-k.result c.key_at-k.ensures c.in_run.result tried (ap not c.if-not-in_run.false) x.now
+          c.behind.ensures.0 c.legal.result tested (ap not c.if-not-legal.false),
     )
 
 pub returns : goal.returns

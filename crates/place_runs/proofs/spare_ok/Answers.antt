@@ -18,8 +18,8 @@ loop-i-preserved c =
     let as_long : length l.spare ≡ length c.behind.result.now = omega (arith, l.invariant.0, c.behind.ensures.1, c.place_at.ensures.1) in (
       ap length c.gather.ensures ∙ length_gathered l.spare c.behind.result.now ∙ l.invariant.0,
       next_spare c.args.b.now l.spare c.gather.new.all c.behind.result.now l.i (c.args.end - (l.i + 1)) c.gather.ensures as_long
-      (rw c.place_at.ensures.0 at c.behind.ensures.0)
-      ∙ rw left at l.invariant.1,
+          (rw c.place_at.ensures.0 at c.behind.ensures.0)
+          ∙ rw left at l.invariant.1,
     )
 
 pub returns : goal.returns
