@@ -201,12 +201,10 @@ module _ (pr : Product) (b : List ℕ) (c i : ℕ) (v : List ℕ) where
     pub section_shown : {n : ℕ} {out : List ℕ} → n ≡ 14 → out ≡ fill 32 (walks.upload_next cat s c i v).1 → Leaves pr (answered n) b b out
     section_shown z e = done_by z (by_upload_next cat s c i v) (only_says pr b h _ _ (upload_next_keeps cat s c i v) e)
 
-  -- ---- the class is known, and has the command, as the code asked by its number
-  module _ (k : Command) (kn : known cat c ≡ true) {n : ℕ} {t : Bool} (is : n ≡ command_number k) (asked : t ≡ among n (class cat c).commands) (yes : t ≡ true) where
+  -- ---- the class is known, and has the command
+  module _ (k : Command) (kn : known cat c ≡ true) (has : among (command_number k) (class cat c).commands ≡ true) where
     may : (k' : Command) → k ≡ k' → among (command_number k') (class cat c).commands ≡ true
-    may k' q =
-        ap (λ (x : Command). among (command_number x) (class cat c).commands) (sym q)
-        ∙ ap (λ (m : ℕ). among m (class cat c).commands) (sym is) ∙ sym asked ∙ yes
+    may k' q = ap (λ (x : Command). among (command_number x) (class cat c).commands) (sym q) ∙ has
 
     pub can_be_created : k ≡ command.Create → is_created (class cat c).creation ≡ true
     can_be_created q = made_by_create cat s c i v kn (well_formed_of pr) (may command.Create q)

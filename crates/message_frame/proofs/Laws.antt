@@ -1,7 +1,7 @@
 -- A message's drops, tried one after another.
 use Prim.Native.Nat.{ℕ, suc, ◌+◌, ◌/◌, ◌≤◌}
 use native.Mathlib.Omega.{arith}
-use mathlib.Core.Path.{◌≡◌, sym, ◌∙◌, ap, refl}
+use mathlib.Core.Path.{◌≡◌, sym, ◌∙◌, refl}
 use mathlib.Core.Bool.{Bool, true, false, ◌&&◌}
 use mathlib.Core.List.{List, [], ◌∷◌}
 use lib.ListN.{length, take, drop, get_or}
@@ -13,11 +13,9 @@ use Rattle.rules.specs.Legal.{header_drops}
 use Rattle.rules.specs.Messages.{trailer, message_drops}
 use Rattle.rules.proofs.Laws.{cases, eqb_true, eqb_false, eqb_eq, eqb_ne}
 use Rattle.std.specs.Prelude.{Result, Ok, Err}
-use Rattle.message_frame.specs.Drops.{drop_of, drop_code}
+use Rattle.message_frame.specs.Drops.{drop_of}
 use Rattle.message_frame.specs.declared.drops.DropReason.{DropReason}
 use Rattle.message_frame.specs.declared.drops.DropReason.TheVariants as reason
-use Rattle.rules.proofs.MapLaws.{EachLine, first_has}
-use mathlib.Core.Option.{Option, some, none}
 use mathlib.Core.Logic.{◌≢◌}
 
 -- four bytes from a place on, one by one
@@ -81,17 +79,3 @@ module _ (m : List ℕ) where
           pub nothing_wrong : same (take 4 (drop 40 m)) trailer ≡ true → tells_first m (Ok tt)
           unfolding message_drops header_drops first_that_applies
           nothing_wrong h = rw (eqb_true (length m) 48 h₃, eqb_true (byte m 3) 0x0A h₄, eqb_true (byte m 2 / 32) 2 h₅, sym (id_test m) ∙ h₆, h)
-
--- ---- codes of drops
-
--- a code that isn't 0 is a drop, and 0 is none where no drop has that number
-pub told_dropped : {code : ℕ} (o : Option ℕ) → code ≡ drop_code o → code ≢ 0 → o ≡ some code
-told_dropped none e z = absurd (z e)
-told_dropped (some m) e z = ap some (sym e)
-
-pub told_none : (l : List (Bool × ℕ)) → EachLine (λ m. m ≢ 0) l → drop_code (first_that_applies l) ≡ 0 → first_that_applies l ≡ none
-told_none l f z = go (first_that_applies l) refl z
-  where
-    go : (o : Option ℕ) → first_that_applies l ≡ o → drop_code o ≡ 0 → first_that_applies l ≡ none
-    go none e y = e
-    go (some m) e y = absurd (first_has (λ m. m ≢ 0) l f m e y)

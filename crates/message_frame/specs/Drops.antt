@@ -20,8 +20,3 @@ drop_number reason.BadContent = 13
 abbrev pub drop_of : {T : Type 0} → Result T DropReason → Option ℕ
 drop_of (Ok t) = none
 drop_of (Err d) = some (drop_number d)
-
--- a drop as a number: 0 stands for none
-abbrev pub drop_code : Option ℕ → ℕ
-drop_code none = 0
-drop_code (some n) = n

@@ -3,7 +3,6 @@
 
 pub mod commands;
 pub mod drops;
-pub mod numbers;
 
 ghost use Rattle.std.specs.Prelude.{◌≡◌, [], ◌∷◌, ◌++◌, ◌≤◌, length, take, drop};
 ghost use Rattle.rules.specs.Bytes.{bytes, fill};
