@@ -1,6 +1,5 @@
 -- The places of a table are tested by a run of each class that can be created, in the order of classes.
-use Rattle.std.specs.Prelude.{Option, Some, None}
-use Rattle.std.proofs.Common.{◌≡◌, ℕ, zero, suc, ◌+◌, ◌-◌, ◌*◌, ◌<◌, ◌≤◌, Bool, true, false, eqb, ltb, leb, List, [], ◌∷◌, drop, sym, refl, ap, ◌∙◌, arith, drop-drop}
+use Rattle.std.proofs.Common.{◌≡◌, ℕ, zero, suc, ◌+◌, ◌-◌, ◌*◌, ◌<◌, ◌≤◌, Bool, true, false, ◌&&◌, eqb, ltb, leb, List, [], ◌∷◌, drop, sym, refl, ap, ◌∙◌, arith, drop-drop}
 use native.Mathlib.Nat.{sub-zero}
 use borrow.Author.Tests.{lt-leb}
 use Rattle.rules.specs.Maps.{◌and◌, among}
@@ -11,9 +10,9 @@ use Rattle.rules.proofs.MapLaws.{Up, up_among, among_past}
 use Rattle.rules.proofs.ByteLaws.{two_small, bytes_take, bytes_drop}
 use Rattle.store.specs.Layout.{key_length, place_length}
 use Rattle.class_tests.specs.Tests.{entry_test}
+use Rattle.std.specs.Prelude.{Option, Some, None}
 use Rattle.place_runs.specs.Tests.{key_in, place_test, places_test}
 use Rattle.place_runs.specs.Runs.{place_in, run_end}
-use Rattle.place_runs.proofs.Turns.{run_within}
 
 -- what a run leaves to be tested
 abbrev pub after : Option ℕ → (ℕ → Bool) → Bool
@@ -23,6 +22,12 @@ after None f = false
 after_alike : (r : Option ℕ) (f g : ℕ → Bool) → ((j : ℕ) → r ≡ Some j → f j ≡ g j) → after r f ≡ after r g
 after_alike (Some j) f g h = h j refl
 after_alike None f g h = refl
+
+ends_same : {i j : ℕ} → Some i ≡ Some j → i ≡ j
+ends_same e = cc
+
+bad_ends : {j : ℕ} → None ≡ Some j → ⊥
+bad_ends e = let z : ◌≡◌ {A = ℕ} 0 1 = cc in omega arith
 
 module _ (cat : Catalogue) (b : List ℕ) (bs : are_bytes b ≡ true) (n : ℕ) where
   -- the test from place i on, if there are m places from there on
@@ -59,7 +64,7 @@ module _ (cat : Catalogue) (b : List ℕ) (bs : are_bytes b ≡ true) (n : ℕ) 
 
   -- a run, and what comes behind it
   run_tested : (c m i low : ℕ) → i + m ≡ n → key c 0 ≤ low → low ≤ key (suc c) 0
-      → from_place m i low ≡ after (run_end (entry_test cat c) c b m i low) (λ j. from_place (n - j) j (key (suc c) 0))
+      → from_place m i low ≡ after (run_end cat c b m i low) (λ j. from_place (n - j) j (key (suc c) 0))
   unfolding run_end
   run_tested c zero i low s h g = let z : n - i ≡ 0 = omega arith in rw z (unfold places_test in refl)
   run_tested c (suc m) i low s h g =
@@ -100,10 +105,22 @@ module _ (cat : Catalogue) (b : List ℕ) (bs : are_bytes b ≡ true) (n : ℕ) 
       (λ u. not_its_own (n - suc j) j (key c 0) (none (two (place_in b j) 0) (omega (arith, leb_le (key c 0) k u, number_small j))) ∙ unfold ◌and◌ in refl)
       (λ u. too_low (n - suc j) j (key c 0) u ∙ unfold ◌and◌ in refl)))
 
+  -- a run ends at the last place or before
+  pub run_within : (c m i low j : ℕ) → i + m ≡ n → run_end cat c b m i low ≡ Some j → j ≤ n
+  unfolding run_end
+  run_within c zero i low j s e = let q : i ≡ j = ends_same e in omega arith
+  run_within c (suc m) i low j s e =
+      let k : ℕ = key_in (place_in b i) in
+      cases (leb low k && ltb k (key (suc c) 0))
+      (λ t. cases (entry_test cat c (entry_at i))
+      (λ w. run_within c m (suc i) (suc k) j (omega arith) (rw (t, w) at e))
+      (λ w. absurd (bad_ends (rw (t, w) at e))))
+      (λ t. let q : i ≡ j = ends_same (rw t at e) in omega arith)
+
   -- runs of these classes, one after another, from place j on
   unfoldable pub in_runs : List ℕ → ℕ → Bool
   in_runs [] j = eqb j n and all_zero (drop (n * place_length) b)
-  in_runs (c ∷ l) j = after (run_end (entry_test cat c) c b (n - j) j (key c 0)) (λ k. in_runs l k)
+  in_runs (c ∷ l) j = after (run_end cat c b (n - j) j (key c 0)) (λ k. in_runs l k)
 
   -- the classes rise from p on, and every class from there on that can be created is among them
   from_runs : (l : List ℕ) (p j : ℕ) → j ≤ n → Up p l → ((x : ℕ) → p ≤ x → is_created (class cat x).creation ≡ true → among x l ≡ true)
@@ -116,8 +133,8 @@ module _ (cat : Catalogue) (b : List ℕ) (bs : are_bytes b ≡ true) (n : ℕ) 
   from_runs (c ∷ l) p j h u own =
       skipped p c u.0 (λ x g k. cases (is_created (class cat x).creation) (λ t. absurd (omega (arith, up_among c x (c ∷ l) (omega arith, u.1) (own x g t)))) (λ t. t)) (n - j) j
       ∙ run_tested c (n - j) j (key c 0) (omega arith) (omega arith) (omega arith)
-      ∙ after_alike (run_end (entry_test cat c) c b (n - j) j (key c 0)) (λ k. from_place (n - k) k (key (suc c) 0)) (in_runs l)
-      (λ k e. from_runs l (suc c) k (run_within (entry_test cat c) c b (n - j) j (key c 0) n k (omega arith) e) u.1 (λ x g t. among_past x c l (own x (omega (arith, u.0)) t) (λ q. omega arith)))
+      ∙ after_alike (run_end cat c b (n - j) j (key c 0)) (λ k. from_place (n - k) k (key (suc c) 0)) (in_runs l)
+      (λ k e. from_runs l (suc c) k (run_within c (n - j) j (key c 0) k (omega arith) e) u.1 (λ x g t. among_past x c l (own x (omega (arith, u.0)) t) (λ q. omega arith)))
 
   pub tested_in_runs : (l : List ℕ) → Up 0 l → ((x : ℕ) → is_created (class cat x).creation ≡ true → among x l ≡ true) → places_test cat n 0 b ≡ in_runs l 0
   tested_in_runs l u own = rw (sub-zero n) at (from_runs l 0 0 (omega arith) u (λ x g. own x))

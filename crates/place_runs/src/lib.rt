@@ -2,17 +2,25 @@
 // the run's class and comes after the one before it. A class that can be created has its loop here, and its test of a place in `class_tests`.
 #![tactic(auto)]
 
-ghost use Rattle.std.specs.Prelude.{◌≡◌, ℕ, ◌+◌, ◌-◌, ◌*◌, ◌<◌, ◌≤◌, ◌&&◌, Bool, List, length, drop, nat_le, nat_lt};
+ghost use Rattle.std.specs.Prelude.{◌≡◌, ◌+◌, ◌-◌, ◌*◌, ◌≤◌, ◌&&◌, length, drop, nat_le, nat_lt};
 ghost use Rattle.rules.specs.Catalogue.{key};
-ghost use Rattle.store.specs.Layout.{place_width, place_length, places_length, place_count};
+ghost use Rattle.store.specs.Layout.{place_length, places_length, place_count};
 ghost use Rattle.class_tables.specs.Built.{cat_of};
-ghost use Rattle.class_tests.specs.Tests.{entry_test};
 ghost use Rattle.place_runs.specs.Tests.{places_test};
-ghost use Rattle.place_runs.specs.Runs.{place_in, InPlaces, AnswersBy, run_end, spare_test};
+ghost use Rattle.place_runs.specs.Runs.{place_in, InPlaces, run_end};
 
 use class_tables::Product;
 use class_tests::PORT_FRONT;
 use store::layout::{ENTRY, KEY, PLACE};
+
+// The first key of a class, and the first one behind it.
+const PROFILES: u32 = 45 * 65536;
+
+const PROFILES_END: u32 = 46 * 65536;
+
+const PORTS: u32 = 47 * 65536;
+
+const PORTS_END: u32 = 48 * 65536;
 
 // How many bytes of a port's place are zero in every product.
 const SPARE: usize = ENTRY - PORT_FRONT;
@@ -43,22 +51,20 @@ fn behind(r: &[u8], n: usize) -> &[u8]
     &r[n..]
 }
 
-// Where the run of a class from a place on ends, if each of its places is legal behind its key.
-fn run<F: Fn(&[u8]) -> bool>(class: u16, legal: F, b: &[u8], from: usize, n: usize) -> Option<usize>
-    requires class { class < 65535 }
-    requires places { InPlaces b.now from n }
-    requires legal { (c : _) → length c.now ≡ place_width → F.pre legal c }
-    ensures { (test : List ℕ → Bool) → AnswersBy F.Fn legal test → result ≡ run_end test class b.now (n - from) from (key class 0) }
+// The run of bridge service profiles, 45, from a place on. It and `ports` differ in the class, its test and the bytes gathered: one loop for both, over a
+// closure, with the bytes gathered behind it, was tried, and takes 3,276 instructions for the test of a full table where these take 2,512.
+fn profiles(product: Product, b: &[u8], from: usize, n: usize) -> Option<usize>
+    requires { InPlaces b.now from n }
+    ensures { result ≡ run_end (cat_of product) 45 b.now (n - from) from (key 45 0) }
 {
-    let mut low = octets::key_of(class, 0);
-    let top = octets::key_of(class + 1, 0);
+    let mut low = PROFILES;
     for i in from..n {
         let r = place_at(b, i);
         let k = octets::key_at(r, 0);
-        if !in_run(k, low, top) {
+        if !in_run(k, low, PROFILES_END) {
             return Some(i);
         }
-        if !legal(behind(r, KEY)) {
+        if !class_tests::profile_ok(product, behind(r, KEY)) {
             return None;
         }
         low = k + 1;
@@ -66,25 +72,28 @@ fn run<F: Fn(&[u8]) -> bool>(class: u16, legal: F, b: &[u8], from: usize, n: usi
     Some(n)
 }
 
-// Are the bytes zero that are so in every port, in these places? They are gathered, and tested once.
-fn spare_ok(b: &[u8], from: usize, end: usize) -> bool
-    requires { InPlaces b.now from end }
-    ensures { result ≡ spare_test b.now (end - from) from }
-{
-    let mut spare = [0u8; SPARE];
-    for i in from..end {
-        bulk_octets::gather(&mut spare, behind(place_at(b, i), KEY + PORT_FRONT));
-    }
-    octets::zeros(&spare)
-}
-
-// Where the run of ports, 47, from a place on ends, if each of its places is legal.
+// The run of ports, 47, from a place on. The zeros behind the contents are gathered over the run, and tested once.
 fn ports(product: Product, b: &[u8], from: usize, n: usize) -> Option<usize>
     requires { InPlaces b.now from n }
-    ensures { result ≡ run_end (entry_test (cat_of product) 47) 47 b.now (n - from) from (key 47 0) }
+    ensures { result ≡ run_end (cat_of product) 47 b.now (n - from) from (key 47 0) }
 {
-    let end = run(47, |c| class_tests::port_ok(product, c), b, from, n)?;
-    spare_ok(b, from, end).then_some(end)
+    let mut spare = [0u8; SPARE];
+    let mut low = PORTS;
+    let mut end = from;
+    for i in from..n {
+        let r = place_at(b, i);
+        let k = octets::key_at(r, 0);
+        if !in_run(k, low, PORTS_END) {
+            break;
+        }
+        if !class_tests::port_ok(product, behind(r, KEY)) {
+            return None;
+        }
+        bulk_octets::gather(&mut spare, behind(r, KEY + PORT_FRONT));
+        low = k + 1;
+        end = i + 1;
+    }
+    octets::zeros(&spare).then_some(end)
 }
 
 // So many places, whose keys rise, then zeros: a run of each class in their order.
@@ -92,7 +101,7 @@ pub fn places_ok(product: Product, n: usize, b: &[u8]) -> bool
     requires { (n ≤ place_count) × (length b.now ≡ places_length) }
     ensures { result ≡ places_test (cat_of product) n 0 b.now }
 {
-    let Some(to_ports) = run(45, |c| class_tests::profile_ok(product, c), b, 0, n) else {
+    let Some(to_ports) = profiles(product, b, 0, n) else {
         return false;
     };
     let Some(end) = ports(product, b, to_ports, n) else {
