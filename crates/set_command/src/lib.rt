@@ -11,7 +11,7 @@ ghost use Rattle.table.specs.Places.{InShape};
 ghost use Rattle.attribute_write.specs.Lays.{Laying};
 ghost use Rattle.sound_store.specs.Held.{state_in, Sound, Leaves};
 ghost use Rattle.outcome.specs.Refusals.{contents_of};
-ghost use Rattle.set_command.specs.Sets.{set_contents, refusing, written, live_in, SetAt};
+ghost use Rattle.set_command.specs.Sets.{SetJudged, bad_at, set_contents, refusing, written, live_in, SetAt};
 
 use class_tables::{Product, classes};
 use outcome::refusals::Refusal;
@@ -25,6 +25,46 @@ const VALUES_END: usize = 32;
 
 // The most bytes that a Set has room for.
 const SET_ROOM: usize = 30;
+
+// What is wrong with a Set: every attribute that it may not name, or, if there is none and the values fit, every one whose content isn't legal.
+// Flags beside masks, and not a Result, since document 02 asks this leaf to report both: every bad bit, and whether any was unsupported or unwritable (`SetJudged`).
+#[derive(Clone, Copy, Debug, PartialEq, Eq)]
+pub struct Judged {
+    // those that the class doesn't have
+    pub unsupported: u16,
+    // those that a Set may not write; where contents are judged, those whose content isn't legal
+    pub failed: u16,
+    // is any unsupported or unwritable? Then only these show, and no content is judged: behind an unsupported one it couldn't even be found.
+    pub barred: bool,
+    // do the values take more bytes than a Set has room for? Then no content is judged either.
+    pub long: bool,
+}
+
+// Judges what a Set names and carries for an instance whose contents begin at a place.
+fn judge_set(b: &[u8], product: Product, class: u16, at: usize, asked: u16, v: &[u8]) -> Judged
+    requires { InShape b.now × (at + contents_width (class_for product class) ≤ length b.now) × (length v.now ≡ 30) }
+    ensures { SetJudged (class_for product class) asked (bad_at product class at asked v.now b.now) result }
+{
+    let unsupported = mask_tests::unsupported(product, class, asked);
+    let unwritable = mask_tests::unwritable(product, class, asked);
+    let barred = (unsupported != 0) | (unwritable != 0);
+    let long = mask_tests::total_size(product, class, asked) > SET_ROOM;
+    if barred | long {
+        return Judged {
+            unsupported: unsupported,
+            failed: unwritable,
+            barred: barred,
+            long: long,
+        };
+    }
+    let bad = attribute_check::bad_mask(b, product, class, asked, v, b, at);
+    Judged {
+        unsupported: unsupported,
+        failed: bad,
+        barred: barred,
+        long: long,
+    }
+}
 
 // What refuses a Set of an instance whose contents begin at a place; nothing is changed here.
 fn set_refusal(
@@ -41,23 +81,14 @@ fn set_refusal(
     if asked == 0 {
         return Err(Refusal::BadParameter);
     }
-    let unsupported = mask_tests::unsupported(product, class, asked);
-    let unwritable = mask_tests::unwritable(product, class, asked);
-    if (unsupported != 0) | (unwritable != 0) {
-        return Err(Refusal::AttributesFailed {
-            unsupported,
-            failed: unwritable,
-        });
-    }
-    if mask_tests::total_size(product, class, asked) > SET_ROOM {
+    let found = judge_set(b, product, class, at, asked, v);
+    if !found.barred & found.long {
         return Err(Refusal::BadParameter);
     }
-    // only now, since behind an attribute that the class doesn't have no content can be found
-    let bad = attribute_check::bad_mask(b, product, class, asked, v, b, at);
-    if bad != 0 {
+    if (found.unsupported != 0) | (found.failed != 0) {
         return Err(Refusal::AttributesFailed {
-            unsupported: 0,
-            failed: bad,
+            unsupported: found.unsupported,
+            failed: found.failed,
         });
     }
     Ok(())
