@@ -66,14 +66,15 @@ pub fn copy_in(dst: &mut [u8], at: usize, src: &[u8])
     dst[at..at + src.len()].copy_from_slice(src);
 }
 
-// Freezes n bytes: copies them to a place behind them, with a 1 in front that marks that they are there.
+// Freezes n bytes: copies them to a place behind them, with a 1 in front that marks that they are there. The mark comes last:
+// where nothing was frozen, none stands over a copy that isn't whole.
 pub fn freeze(s: &mut [u8], from: usize, to: usize, n: usize)
     requires { (from + n ≤ to) × (to + n < length s.old) }
     ensures { s.new ≡ laid to (1 ∷ take n (drop from s.old)) s.old }
 {
     let (front, behind) = s.split_at_mut(to);
-    behind[0] = 1;
     behind[1..1 + n].copy_from_slice(&front[from..from + n]);
+    behind[0] = 1;
 }
 
 // Makes every byte zero.
