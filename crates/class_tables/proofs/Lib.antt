@@ -1,6 +1,5 @@
 pub mod Matches
 pub mod EveryProduct
-pub mod CommandTests
 pub mod ClassLaws
 pub mod Facts
 pub mod Tables

@@ -40,3 +40,24 @@ module _ (n a : ℕ) where
       last true y = refl
       last false true = refl
       last false false = refl
+
+  pub among_3 : (b c : ℕ) {l : List ℕ} → a ∷ b ∷ c ∷ [] ≡ l → ((eqb n a || eqb n b) || eqb n c) ≡ among n l
+  unfolding among ◌or◌
+  among_3 b c e = rw (← e) (last (eqb n a) (eqb n b) (eqb n c))
+    where
+      last : (x y z : Bool) → ((x || y) || z) ≡ (x || (y || (z || false)))
+      last true y z = refl
+      last false true z = refl
+      last false false true = refl
+      last false false false = refl
+
+  pub among_4 : (b c d : ℕ) {l : List ℕ} → a ∷ b ∷ c ∷ d ∷ [] ≡ l → ((eqb n a || eqb n b) || (eqb n c || eqb n d)) ≡ among n l
+  unfolding among ◌or◌
+  among_4 b c d e = rw (← e) (last (eqb n a) (eqb n b) (eqb n c) (eqb n d))
+    where
+      last : (x y z w : Bool) → ((x || y) || (z || w)) ≡ (x || (y || (z || (w || false))))
+      last true y z w = refl
+      last false true z w = refl
+      last false false true w = refl
+      last false false false true = refl
+      last false false false false = refl

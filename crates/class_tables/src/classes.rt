@@ -49,15 +49,24 @@ pub fn known(product: Product, class: u16) -> bool
     }
 }
 
-// Is the command for the class?
-pub fn allows(product: Product, class: u16, command: Command) -> bool
-    ensures { result ≡ among (command_number command) (class_for product class).commands }
+// Is it the number of this command's message?
+fn is_number_of(message: u8, command: Command) -> bool
+    ensures { result ≡ eqb message (command_number command) }
+{
+    message == u8::from(command)
+}
+
+// Is the command with this message number for the class? Most numbers are no command's, and for none.
+pub fn allows(product: Product, class: u16, message: u8) -> bool
+    ensures { result ≡ among message (class_for product class).commands }
 {
     let changes = provisioned(product);
-    let set_or_get = (changes & (command == Command::Set)) | (command == Command::Get);
-    let create_or_delete = (command == Command::Create) | (command == Command::Delete);
+    let set_or_get = (changes & is_number_of(message, Command::Set))
+        | is_number_of(message, Command::Get);
+    let create_or_delete = is_number_of(message, Command::Create)
+        | is_number_of(message, Command::Delete);
     match class {
-        2 => set_or_get | (command == Command::Reset),
+        2 => set_or_get | is_number_of(message, Command::Reset),
         11 => set_or_get,
         46 => changes & set_or_get,
         45 | 47 => changes & (create_or_delete | set_or_get),

@@ -145,6 +145,11 @@ no_other command.Upload e a b c d f = never (sym e)
 no_other command.UploadNext e a b c d f = never (sym e)
 no_other command.Reset e a b c d f = f refl
 
+-- a class has a command, or hasn't, by its number
+pub numbered : (pr : Product) (c : ℕ) (k : Command) {n : ℕ} {b : Bool} → n ≡ command_number k
+    → among n (class (cat_of pr) c).commands ≡ b → among (command_number k) (class (cat_of pr) c).commands ≡ b
+numbered pr c k e h = sym (ap (λ (m : ℕ). among m (class (cat_of pr) c).commands) e) ∙ h
+
 -- ---- what is left
 
 -- the same answer by another name

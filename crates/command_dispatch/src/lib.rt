@@ -32,7 +32,7 @@ fn with_result(
     if !classes::known(product, class) {
         return Err(Refusal::UnknownClass);
     }
-    if !classes::allows(product, class, command) {
+    if !classes::allows(product, class, u8::from(command)) {
         return Err(Refusal::NotSupported);
     }
     match command {

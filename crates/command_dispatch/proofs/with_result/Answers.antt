@@ -1,5 +1,5 @@
 use mathlib.Core.Path.{sym, ◌∙◌}
-use Rattle.command_dispatch.proofs.Answers.{no_class, not_allowed, can_be_created, can_be_deleted, no_other, created, deleted, set_so, got, was_reset}
+use Rattle.command_dispatch.proofs.Answers.{numbered, no_class, not_allowed, can_be_created, can_be_deleted, no_other, created, deleted, set_so, got, was_reset}
 use Rattle.command_dispatch.proofs.with_result.Goals as goal
 
 pub returns-then-not-known-clause-answered : goal.returns-then-not-known-clause-answered
@@ -11,14 +11,14 @@ pub returns-then-not-allows-clause-answered : goal.returns-then-not-allows-claus
 returns-then-not-allows-clause-answered c =
     let a = c.args in
     not_allowed a.product a.store.now a.class a.number a.v.now c.requires.0 a.command c.requires.1 (sym c.known.ensures ∙ c.if-not-known.false)
-    (sym c.allows.ensures ∙ c.if-not-allows.true)
+    (numbered a.product a.class a.command c.from.ensures (sym c.allows.ensures ∙ c.if-not-allows.true))
 
 pub create-requires : goal.create-requires
 create-requires c =
     let a = c.args in (
       c.requires.0,
       can_be_created a.product a.store.now a.class a.number a.v.now a.command (sym c.known.ensures ∙ c.if-not-known.false)
-          (sym c.allows.ensures ∙ c.if-not-allows.false) c.in-Create.is,
+          (numbered a.product a.class a.command c.from.ensures (sym c.allows.ensures ∙ c.if-not-allows.false)) c.in-Create.is,
       c.requires.2,
     )
 
@@ -27,7 +27,7 @@ delete-requires c =
     let a = c.args in (
       c.requires.0,
       can_be_deleted a.product a.store.now a.class a.number a.v.now a.command (sym c.known.ensures ∙ c.if-not-known.false)
-          (sym c.allows.ensures ∙ c.if-not-allows.false) c.in-Delete.is,
+          (numbered a.product a.class a.command c.from.ensures (sym c.allows.ensures ∙ c.if-not-allows.false)) c.in-Delete.is,
     )
 
 pub unreachable-requires : goal.unreachable-requires
@@ -38,28 +38,28 @@ pub returns-in-Create-clause-answered : goal.returns-in-Create-clause-answered
 returns-in-Create-clause-answered c =
     let a = c.args in
     created a.product a.store.now a.class a.number a.v.now a.command (sym c.known.ensures ∙ c.if-not-known.false)
-    (sym c.allows.ensures ∙ c.if-not-allows.false) _ _ c.create.result c.requires.3 c.in-Create.is c.create.ensures
+    (numbered a.product a.class a.command c.from.ensures (sym c.allows.ensures ∙ c.if-not-allows.false)) _ _ c.create.result c.requires.3 c.in-Create.is c.create.ensures
 
 pub returns-in-Delete-clause-answered : goal.returns-in-Delete-clause-answered
 returns-in-Delete-clause-answered c =
     let a = c.args in
     deleted a.product a.store.now a.class a.number a.v.now a.command (sym c.known.ensures ∙ c.if-not-known.false)
-    (sym c.allows.ensures ∙ c.if-not-allows.false) _ _ c.delete.result c.requires.3 c.in-Delete.is c.delete.ensures
+    (numbered a.product a.class a.command c.from.ensures (sym c.allows.ensures ∙ c.if-not-allows.false)) _ _ c.delete.result c.requires.3 c.in-Delete.is c.delete.ensures
 
 pub returns-in-Set-clause-answered : goal.returns-in-Set-clause-answered
 returns-in-Set-clause-answered c =
     let a = c.args in
     set_so a.product a.store.now a.class a.number a.v.now a.command (sym c.known.ensures ∙ c.if-not-known.false)
-    (sym c.allows.ensures ∙ c.if-not-allows.false) _ _ c.set.result c.requires.3 c.in-Set.is c.set.ensures
+    (numbered a.product a.class a.command c.from.ensures (sym c.allows.ensures ∙ c.if-not-allows.false)) _ _ c.set.result c.requires.3 c.in-Set.is c.set.ensures
 
 pub returns-in-Get-clause-answered : goal.returns-in-Get-clause-answered
 returns-in-Get-clause-answered c =
     let a = c.args in
     got a.product a.store.now a.class a.number a.v.now a.command (sym c.known.ensures ∙ c.if-not-known.false)
-    (sym c.allows.ensures ∙ c.if-not-allows.false) c.requires.0 c.in-Get.is c.get.ensures.contents
+    (numbered a.product a.class a.command c.from.ensures (sym c.allows.ensures ∙ c.if-not-allows.false)) c.requires.0 c.in-Get.is c.get.ensures.contents
 
 pub returns-in-Reset-clause-answered : goal.returns-in-Reset-clause-answered
 returns-in-Reset-clause-answered c =
     let a = c.args in
     was_reset a.product a.store.now a.class a.number a.v.now a.command (sym c.known.ensures ∙ c.if-not-known.false)
-    (sym c.allows.ensures ∙ c.if-not-allows.false) _ _ c.reset.result c.requires.3 c.in-Reset.is c.reset.ensures
+    (numbered a.product a.class a.command c.from.ensures (sym c.allows.ensures ∙ c.if-not-allows.false)) _ _ c.reset.result c.requires.3 c.in-Reset.is c.reset.ensures
