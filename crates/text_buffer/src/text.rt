@@ -1,9 +1,45 @@
 // Hex digits, in capitals.
-ghost use Rattle.std.specs.Prelude.{◌≡◌, Some};
+ghost use Rattle.std.specs.Prelude.{◌≡◌, ◌<◌, ◌∷◌, [], Some};
 ghost use Rattle.text_buffer.specs.Groups.{begins_group, gap, grouped};
-ghost use Rattle.text_buffer.specs.Digits.{hexes, hex_number};
+ghost use Rattle.text_buffer.specs.Digits.{hex_digit, hex, hexes, hex_number};
+ghost use Rattle.std.specs.Fmt.{WritesOnOk};
 
 use std::fmt;
+
+// The hex digit of a number below 16.
+#[tactic(auto, unfolding(crate::specs::Digits::hex_digits))]
+fn digit(value: u8) -> &'static str
+    requires { value < 16 }
+    ensures { result.now ≡ hex_digit value ∷ [] }
+{
+    match value {
+        0 => "0",
+        1 => "1",
+        2 => "2",
+        3 => "3",
+        4 => "4",
+        5 => "5",
+        6 => "6",
+        7 => "7",
+        8 => "8",
+        9 => "9",
+        10 => "A",
+        11 => "B",
+        12 => "C",
+        13 => "D",
+        14 => "E",
+        15 => "F",
+        _ => unreachable!(),
+    }
+}
+
+// A byte's two digits: a message has 48 bytes, and `{byte:02X}` takes five times as long.
+fn write_byte<W: fmt::Write>(f: &mut fmt::Formatter<W>, byte: u8) -> fmt::Result
+    ensures { WritesOnOk W.write_str_gives f.old result (hex byte) f.new }
+{
+    f.write_str(digit(byte / 16))?;
+    f.write_str(digit(byte % 16))
+}
 
 // A byte or a number of two bytes prints in decimal; these print in hex. Bytes, with nothing between them.
 #[derive(Clone, Copy)]
@@ -14,7 +50,7 @@ impl fmt::Display for Hexes<'_> {
 
     fn fmt<W: fmt::Write>(&self, f: &mut fmt::Formatter<W>) -> fmt::Result {
         for &byte in self.0 {
-            write!(f, "{byte:02X}")?;
+            write_byte(f, byte)?;
         }
         Ok(())
     }
@@ -57,7 +93,8 @@ impl fmt::Display for Groups<'_> {
 
     fn fmt<W: fmt::Write>(&self, f: &mut fmt::Formatter<W>) -> fmt::Result {
         for (i, &byte) in self.0.iter().enumerate() {
-            write!(f, "{}{byte:02X}", gap(i))?;
+            f.write_str(gap(i))?;
+            write_byte(f, byte)?;
         }
         Ok(())
     }
