@@ -1,7 +1,7 @@
 // The run that is played where no input came: a bridge is built, the link drops during an upload, and the upload stays whole.
 use bench_run::run::Run;
-use bench_terminal::Player;
-use std::alloc::AllocError;
+use bench_terminal::{Bench, Player};
+use std::mem;
 
 // The script in its parts: before the link drops, the drop, the rest of the upload, and a Get behind it.
 const BEFORE: &str =
@@ -43,7 +43,7 @@ Last year's accident can't happen.
 const NOT_WHOLE: &str = "\nThe sections differ from those of a product whose link does not drop.\n";
 
 // Shows the script and plays it; then plays the upload without a word on a second product, where the link doesn't drop.
-pub fn play<R: Print + AllocGlobal>(rt: &R, player: &mut Player) -> Result<(), AllocError> {
+pub fn play<R: Print>(rt: &R, player: &mut Player<'_>) {
     let shown = format_args!(
         "No input came, so this script is played:\n\n{BEFORE}{MEANWHILE}{AFTER}{FRESH}\n"
     );
@@ -51,20 +51,18 @@ pub fn play<R: Print + AllocGlobal>(rt: &R, player: &mut Player) -> Result<(), A
     for part in [BEFORE, MEANWHILE, AFTER, FRESH] {
         player.take_chunk(rt, part.as_bytes());
     }
-    let mut second = Player::new(rt.alloc(), Run::silent())?;
+    // The second product has the same room: its bench stands in the place of the first meanwhile.
+    let first = mem::replace(&mut player.bench, Bench::new(Run::silent()));
     for part in [BEFORE, AFTER] {
-        second.take_chunk(rt, part.as_bytes());
+        player.take_chunk(rt, part.as_bytes());
     }
-    tell(
-        rt,
-        player.bench.has_same_sections(&second.bench),
-        &mut player.bench.run,
-    );
-    Ok(())
+    let second = mem::replace(&mut player.bench, first);
+    let same = player.bench.has_same_sections(&second);
+    tell(rt, same, &mut player.bench.run);
 }
 
 // What the comparison came to.
-fn tell<R: Print + AllocGlobal>(rt: &R, same: bool, run: &mut Run) {
+fn tell<R: Print>(rt: &R, same: bool, run: &mut Run) {
     if same {
         run.say(rt, &WHOLE);
     } else {

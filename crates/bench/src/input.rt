@@ -4,7 +4,7 @@ use std::io::Read;
 
 // A proved loop has to end, and nothing says that the input does: so it has a bound that no run comes to. It also ends where the
 // output can't be written any more.
-pub fn play<R: Print + AllocGlobal, I: Read>(rt: &R, input: &mut I, player: &mut Player) {
+pub fn play<R: Print, I: Read>(rt: &R, input: &mut I, player: &mut Player<'_>) {
     let mut chunk = [0u8; 65536];
     for _ in 0..u64::MAX {
         match input.read(&mut chunk) {

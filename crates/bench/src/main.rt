@@ -6,24 +6,15 @@ mod builtin;
 mod input;
 
 use bench_run::run::Run;
-use bench_terminal::Player;
-use std::alloc::AllocError;
+use bench_terminal::{Player, room};
 
-fn play(rt: &HostRuntime) -> Result<Run, AllocError> {
-    let mut player = Player::new(rt.alloc(), Run::new())?;
-    input::play(rt, &mut rt.stdin(), &mut player);
-    player.take_end(rt);
-    if !player.bench.run.seen && player.bench.run.readable {
-        builtin::play(rt, &mut player)?;
-    }
-    Ok(player.bench.run)
-}
-
-// Without memory nothing could be written.
 fn main(rt: HostRuntime) {
-    let run = play(&rt).unwrap_or(Run {
-        written: false,
-        ..Run::new()
-    });
-    run.end(&rt);
+    let mut space = room();
+    let mut player = Player::new(Run::new(), &mut space);
+    input::play(&rt, &mut rt.stdin(), &mut player);
+    player.take_end(&rt);
+    if !player.bench.run.seen && player.bench.run.readable {
+        builtin::play(&rt, &mut player);
+    }
+    player.bench.run.end(&rt);
 }

@@ -1,22 +1,11 @@
 // Texts onto standard output, and what went wrong onto standard error.
 use super::run::Run;
-use std::fmt::{Display, Write};
-use std::io;
-
-// Few texts are longer, and there is more room for those.
-const PAGE: usize = 4096;
-
-// The text is made first, so that one write takes all of it.
-fn print_at_once<R: Print + AllocGlobal, T: Display>(rt: &R, text: &T) -> io::Result<()> {
-    let mut page = String::with_capacity(rt.alloc(), PAGE)?;
-    write!(page, "{text}")?;
-    rt.write_all(page.as_bytes())
-}
+use std::fmt::Display;
 
 impl Run {
-    // Prints a text, unless nothing is to be written.
-    pub fn say<R: Print + AllocGlobal, T: Display>(&mut self, rt: &R, text: &T) {
-        if !self.silent && print_at_once(rt, text).is_err() {
+    // Prints a text, unless nothing is to be written. std's own buffer takes it, so that no memory is asked for that there might not be.
+    pub fn say<R: Print, T: Display>(&mut self, rt: &R, text: &T) {
+        if !self.silent && print!(rt; "{text}").is_err() {
             self.written = false;
         }
     }

@@ -7,7 +7,7 @@ pub struct Run {
     pub seen: bool,
     // the input could be read
     pub readable: bool,
-    // there was memory for every text, and it could be written
+    // every text could be written
     pub written: bool,
     // nothing is to be written
     pub silent: bool,

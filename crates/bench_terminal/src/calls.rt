@@ -87,19 +87,14 @@ impl Bench {
     }
 
     // What was asked for in the present line, and what it came to.
-    fn tell<R: Print + AllocGlobal, T: fmt::Display>(
-        &mut self,
-        rt: &R,
-        asked: &T,
-        came: &Came<'_>,
-    ) {
+    fn tell<R: Print, T: fmt::Display>(&mut self, rt: &R, asked: &T, came: &Came<'_>) {
         let line = self.run.number;
         self.run
             .say(rt, &format_args!("line {line}: {asked}{came}"));
     }
 
     // A message.
-    pub(crate) fn exchange<R: Print + AllocGlobal>(&mut self, rt: &R, m: &[u8]) {
+    pub fn exchange<R: Print>(&mut self, rt: &R, m: &[u8]) {
         let mut reply = [0u8; 48];
         let again = self.is_again(m);
         let outcome = engine::handle(&mut self.store, m, &mut reply);
@@ -113,7 +108,7 @@ impl Bench {
     }
 
     // A local report of an attribute.
-    pub(crate) fn report<R: Print + AllocGlobal>(&mut self, rt: &R, asked: Report<'_>) {
+    pub fn report<R: Print>(&mut self, rt: &R, asked: Report<'_>) {
         let mut reply = [0u8; 48];
         let Instance { class, number } = asked.instance;
         let outcome = engine::report_attribute(
@@ -133,7 +128,7 @@ impl Bench {
     }
 
     // A local report of an alarm.
-    pub(crate) fn alarm<R: Print + AllocGlobal>(&mut self, rt: &R, asked: Raised) {
+    pub fn alarm<R: Print>(&mut self, rt: &R, asked: Raised) {
         let mut reply = [0u8; 48];
         let Instance { class, number } = asked.instance;
         let outcome = engine::report_alarm(
@@ -153,7 +148,7 @@ impl Bench {
     }
 
     // Powers a product on: 1 small, 2 large, 3 meter.
-    pub(crate) fn power<R: Print + AllocGlobal>(&mut self, rt: &R, product: u8) {
+    pub fn power<R: Print>(&mut self, rt: &R, product: u8) {
         let started = engine::power_on(&mut self.store, product);
         let line = self.run.number;
         let powered = Powered { product, started };

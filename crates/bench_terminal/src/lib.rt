@@ -7,4 +7,4 @@ mod lines;
 mod walks;
 
 pub use bench::Bench;
-pub use lines::Player;
+pub use lines::{Player, room};

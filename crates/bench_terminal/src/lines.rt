@@ -1,21 +1,29 @@
 // The input, line by line: a line ends with a line feed, the last one perhaps with the input.
+ghost use Rattle.std.specs.Prelude.{◌≡◌, length};
+
 use super::bench::Bench;
 use bench_names::names::Instance;
 use bench_names::reads::part;
 use bench_run::run::Run;
 use bench_script::Asked;
 use bench_words::requests::{Raised, Report};
-use std::alloc::{AllocError, Global};
 
 // How many bytes a line may have.
 const LINE: usize = 1048576;
 
-// The bytes that a line holds in hex: two digits each.
-const BYTES: usize = LINE / 2;
+// The room for a line and for the bytes that it holds in hex: two digits each.
+const ROOM: usize = LINE + LINE / 2;
+
+// So much room. The contract gives only the length, which lending the array as a slice needs.
+pub fn room() -> [u8; ROOM]
+    ensures { 1572864 ≡ length result }
+{
+    [0; ROOM]
+}
 
 impl Bench {
     // What a line asks for.
-    fn play<R: Print + AllocGlobal>(&mut self, rt: &R, asked: Asked, bytes: &[u8]) {
+    fn play<R: Print>(&mut self, rt: &R, asked: Asked, bytes: &[u8]) {
         match asked {
             Asked::Power(product) => self.power(rt, product),
             Asked::Message(length) => self.exchange(rt, part(bytes, 0, length)),
@@ -49,56 +57,67 @@ impl Bench {
             Asked::Alarms => self.alarms(rt),
         }
     }
+
+    // A line that has ended: so many bytes came of it, and the first ones stand in the room. What it holds in hex goes behind.
+    fn play_line<R: Print>(&mut self, rt: &R, room: &mut [u8], length: usize) {
+        let (line, bytes) = split(room);
+        if line.len() < length {
+            self.run.long_line(rt, line.len());
+            return;
+        }
+        match bench_script::read_line(&line[..length], bytes) {
+            Ok(None) => {}
+            Ok(Some(asked)) => self.play(rt, asked, bytes),
+            Err(wrong) => self.run.wrong_line(rt, wrong),
+        }
+    }
 }
 
-// A bench, and the room for what is played on it.
+// The room for a line, and for the bytes that it holds in hex.
+fn split(room: &mut [u8]) -> (&mut [u8], &mut [u8]) {
+    let end = LINE.min(room.len());
+    room.split_at_mut(end)
+}
+
+// A bench, and the room for what is played on it. The room is lent, as the store is to the engine: no line can want for memory.
 #[derive(Drop)]
-pub struct Player {
+pub struct Player<'a> {
     pub bench: Bench,
-    // what came of the present line; a byte more than it may have shows that it is longer
-    line: Vec<u8>,
-    // room for the bytes that a line holds in hex
-    bytes: Vec<u8>,
+    // the present line, as far as there is room for it, and behind it room for its bytes
+    room: &'a mut [u8],
+    // how many bytes of the line came, those for which there was no room too
+    length: usize,
 }
 
-impl Player {
-    pub fn new(alloc: Global, run: Run) -> Result<Player, AllocError> {
-        Ok(Player {
-            bench: Bench::new(alloc, run)?,
-            line: Vec::with_capacity(alloc, LINE + 1)?,
-            bytes: vec![in alloc; 0; BYTES]?,
-        })
+impl<'a> Player<'a> {
+    pub fn new(run: Run, room: &'a mut [u8]) -> Player<'a> {
+        Player {
+            bench: Bench::new(run),
+            room,
+            length: 0,
+        }
     }
 
     // The line has ended, and the next one begins.
-    fn end_line<R: Print + AllocGlobal>(&mut self, rt: &R) {
-        if self.line.len() > LINE {
-            self.bench.run.long_line(rt, LINE);
-        } else {
-            match bench_script::read_line(&self.line, &mut self.bytes) {
-                Ok(None) => {}
-                Ok(Some(asked)) => self.bench.play(rt, asked, &self.bytes),
-                Err(wrong) => self.bench.run.wrong_line(rt, wrong),
-            }
-        }
-        self.line.clear();
+    fn end_line<R: Print>(&mut self, rt: &R) {
+        let length = self.length;
+        self.bench.play_line(rt, self.room, length);
+        self.length = 0;
         self.bench.run.next_line();
     }
 
-    // More bytes of the line. There is room for them, or they are more than it may have.
+    // More bytes of the line. Those for which there is no room are counted.
     fn append(&mut self, piece: &[u8]) {
-        let room = (LINE + 1).saturating_sub(self.line.len());
-        if self
-            .line
-            .extend_from_slice(&piece[..piece.len().min(room)])
-            .is_err()
-        {
-            self.bench.run.written = false;
-        }
+        let length = self.length;
+        let (line, _) = split(self.room);
+        let from = length.min(line.len());
+        let some = piece.len().min(line.len() - from);
+        line[from..from + some].copy_from_slice(&piece[..some]);
+        self.length = length.wrapping_add(piece.len());
     }
 
     // A chunk of the input.
-    pub fn take_chunk<R: Print + AllocGlobal>(&mut self, rt: &R, chunk: &[u8]) {
+    pub fn take_chunk<R: Print>(&mut self, rt: &R, chunk: &[u8]) {
         for piece in chunk.split_inclusive(|&byte| byte == b'\n') {
             match piece.strip_suffix(b"\n") {
                 Some(end) => {
@@ -111,8 +130,8 @@ impl Player {
     }
 
     // The end of the input: what came behind the last line feed is a line too.
-    pub fn take_end<R: Print + AllocGlobal>(&mut self, rt: &R) {
-        if !self.line.is_empty() {
+    pub fn take_end<R: Print>(&mut self, rt: &R) {
+        if self.length != 0 {
             self.end_line(rt);
         }
     }
