@@ -15,7 +15,7 @@ use Rattle.rules.specs.State.{class_of}
 use Rattle.rules.specs.Legal.{automatic_keys, declared_from, computing_legal}
 use Rattle.class_tables.specs.declared.Product.{Product}
 use Rattle.class_tables.specs.declared.Product.TheVariants.{Small, Large, Meter}
-use Rattle.class_tables.specs.Built.{cat_of}
+use Rattle.class_tables.specs.Built.{cat_of, by_product}
 use Rattle.class_tables.specs.Computing.{computing_tables}
 use Rattle.class_tables.proofs.EveryProduct.{same_list}
 use Rattle.store.specs.Layout.{slot_count}
@@ -46,6 +46,14 @@ one_alarm b bs pr h =
     (λ (e : pr ≡ Small). rw (e, small_keys, alarm_byte Small (byte b 0) small) refl)
     (λ (e : pr ≡ Meter). rw (e, meter_keys, alarm_byte Meter (byte b 0) small) refl)
     h
+
+one_slot : (pr : Product) → (pr ≡ Small) ⊎ (pr ≡ Meter) → ◌≡◌ {A = ℕ} (by_product pr 1 4 1) 1
+one_slot pr h = ⊎_elim (λ (e : pr ≡ Small). rw e refl) (λ (e : pr ≡ Meter). rw e refl) h
+
+-- the zeros begin behind its one slot
+pub one_alarm_by : (b : List ℕ) → are_bytes b ≡ true → (pr : Product) {n : ℕ} → n ≡ by_product pr 1 4 1 → (pr ≡ Small) ⊎ (pr ≡ Meter)
+    → (eqb (byte b 0 % 128) 0 and all_zero (drop n b)) ≡ alarms_test (cat_of pr) (automatic_keys (cat_of pr)) b
+one_alarm_by b bs pr e h = rw (e ∙ one_slot pr h) (one_alarm b bs pr h)
 
 -- one byte more, as the fold over the alarms has it
 abbrev pub one_more : Bool → ℕ → Bool

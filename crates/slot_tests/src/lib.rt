@@ -62,6 +62,8 @@ pub fn alarms_ok(product: Product, b: &[u8]) -> bool
         Product::Large => b
             .iter()
             .fold(true, |declared, x| declared & (*x % 128 == 0)),
-        Product::Small | Product::Meter => (b[0] % 128 == 0) & octets::zeros_from(b, 1),
+        Product::Small | Product::Meter => {
+            (b[0] % 128 == 0) & octets::zeros_from(b, by(product, 1, SLOT_COUNT, 1))
+        }
     }
 }

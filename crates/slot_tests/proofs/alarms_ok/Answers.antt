@@ -4,7 +4,7 @@ use Rattle.std.proofs.lemmas.Iterator.Consumers.{fold_from_yields_List}
 use Rattle.std.specs.List.{fold}
 use Rattle.rules.specs.Maps.{◌and◌}
 use Rattle.rules.proofs.ByteLaws.{known_bytes}
-use Rattle.slot_tests.proofs.AlarmBytes.{one_more, one_alarm, large_alarms}
+use Rattle.slot_tests.proofs.AlarmBytes.{one_more, one_alarm_by, large_alarms}
 use Rattle.slot_tests.proofs.alarms_ok.Goals as goal
 
 pub returns-in-Large : goal.returns-in-Large
@@ -16,4 +16,4 @@ returns-in-Large c =
 pub returns-in-Small : goal.returns-in-Small
 unfolding ◌and◌
 returns-in-Small c =
-    rw c.zeros_from.ensures (one_alarm c.args.b.now (known_bytes c.args.b.now (λ i. (c.type_inv.b i).fits)) c.args.product c.in-Small.is)
+    rw c.zeros_from.ensures (one_alarm_by c.args.b.now (known_bytes c.args.b.now (λ i. (c.type_inv.b i).fits)) c.args.product c.by.ensures c.in-Small.is)
