@@ -1,12 +1,12 @@
 -- The alarms of the products, byte by byte: of a UNI only alarm 0, at the top of the byte, is declared.
-use Rattle.std.proofs.Common.{◌⊎◌, ⊎_elim, take-append-drop}
+use Rattle.std.proofs.Common.{◌⊎◌, ⊎_elim}
 use Prim.Native.Nat.{ℕ, ◌%◌, ◌<◌}
 use native.Mathlib.Omega.{arith}
 use mathlib.Core.Path.{◌≡◌, refl, sym, ap, ◌∙◌}
 use mathlib.Core.Bool.{Bool, true, ◌&&◌}
 use mathlib.Core.List.{List, [], ◌∷◌, ◌++◌}
-use lib.ListN.{length, take, drop, drop_of_length-le}
-use lib.Seq.{drop-cons}
+use lib.ListN.{length, take, drop}
+use lib.Seq.{take_all, take-suc}
 use Rattle.std.specs.List.{fold}
 use Rattle.std.proofs.lemmas.List.Sums.{fold-append}
 use lib.Dec.{eqb}
@@ -76,10 +76,9 @@ unfolding ◌and◌
 large_alarms b h bs =
     rw large_keys (each_alarm (key 11 0x0101 ∷ key 11 0x0102 ∷ key 11 0x0103 ∷ key 11 0x0104 ∷ []) b (unfold all in refl) h bs true ∙ true_and _)
 
--- the last one behind the others
+-- the last slot's alarms, tested behind those of the others
 pub last_behind : (b : List ℕ) → length b ≡ slot_count → are_bytes b ≡ true
     → (fold one_more true (take 3 b) && eqb (byte b 3 % 128) 0) ≡ alarms_test (cat_of Large) (automatic_keys (cat_of Large)) b
 last_behind b h bs =
-    let last : drop 3 b ≡ byte b 3 ∷ [] = rw (drop-cons b 3 0 (omega (arith, h)), drop_of_length-le b {i = slot_count} (omega (arith, h))) refl in
-    let parted : take 3 b ++ byte b 3 ∷ [] ≡ b = ap (λ (l : List ℕ). take 3 b ++ l) (sym last) ∙ take-append-drop 3 b in
+    let parted : take 3 b ++ byte b 3 ∷ [] ≡ b = sym (take-suc b 3 0 (omega (arith, h))) ∙ take_all slot_count b (omega (arith, h)) in
     sym (fold-append one_more true (take 3 b) (byte b 3 ∷ [])) ∙ ap (fold one_more true) parted ∙ large_alarms b h bs
